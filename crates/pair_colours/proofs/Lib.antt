@@ -1,0 +1,16 @@
+pub mod Counts
+pub mod Places
+pub mod Rounds
+pub mod Measure
+pub mod Exists
+pub mod ListLemmas
+pub mod NamePlaces
+pub mod Names
+pub mod Closures
+pub mod Walked
+pub mod Few
+pub mod ListReads
+pub mod FirstPair
+pub mod Meets
+pub mod NumberedLists
+pub mod Writes

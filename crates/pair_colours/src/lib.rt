@@ -1,0 +1,20 @@
+//! Colourings of the ordered pairs of points: their classes, their canonical naming, and what it
+//! means to be a coherent configuration and the closure of a colouring.
+//!
+//! * `coloured_pairs`: `Colouring`, the matrix of colours that every crate above works on.
+//! * `number_list`: `Numbers`, the list of numbers that readers and answers hand on.
+//! * `numbering`: numbers for equal entries of a list, which naming, refining and meeting share.
+//! * `laws`: what holds of the definitions alone.
+//!
+//! The definitions stand in `specs/`; docs/DEFINITIONS.md has them in words.
+#![tactic(auto)]
+
+mod coloured_pairs;
+pub mod laws;
+mod no_memory;
+mod number_list;
+mod numbering;
+
+pub use coloured_pairs::{Colouring, MOST_COLOUR, MOST_POINTS};
+pub use no_memory::NoMemory;
+pub use number_list::Numbers;

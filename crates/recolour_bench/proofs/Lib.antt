@@ -1,0 +1,5 @@
+pub mod Recoloured
+pub mod Unused
+pub mod Joined
+pub mod Stepping
+pub mod Keeping

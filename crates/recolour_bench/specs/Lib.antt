@@ -1,0 +1,4 @@
+pub mod Recolouring
+pub mod History
+pub mod Steps
+pub mod Kept

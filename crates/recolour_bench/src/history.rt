@@ -1,0 +1,163 @@
+//! The history of a colouring under edits.
+
+ghost use Rattle.std.specs.Prelude.{◌≡◌, ◌≢◌, ◌+◌, ◌<◌, ◌≤◌, ◌↔◌, ◌++◌, [], ◌∷◌, All, IfOk, IfErr, OnOk, OnErr, IsErrOf, IsOkUnless, length, take, Option, Some};
+ghost use Rattle.pair_colours.specs.Colouring.{PairColouring, FitsColouring};
+ghost use Rattle.pair_colours.specs.Closure.{IsClosureOf};
+ghost use Rattle.recolour_bench.specs.History.{IsHistory, IsRawColouring, present, started};
+ghost use Rattle.recolour_bench.specs.Steps.{edits, undoes, redoes, refusal, Accepts, Step, UndoStep, RedoStep};
+
+use crate::edits::{Edit, EditFault};
+use crate::recolouring::edited_by;
+use crate::refusals::refusal_at;
+use pair_colours::{Colouring, MOST_COLOUR, NoMemory};
+use std::alloc::Global;
+use std::marker::Model;
+use wl_refine::close_matrix;
+
+/// The greatest position: a history has at most one entry more.
+pub const MOST_POSITION: u32 = 256;
+
+// A colouring of the history, with its closure.
+#[derive(Drop)]
+struct Kept {
+    raw: Colouring,
+    closure: Colouring,
+}
+
+// Puts an entry after the one at the place, for all that come after it. What can fail comes first.
+fn put_after(kept: &mut Vec<Kept>, place: usize, entry: Kept) -> Result<(), NoMemory>
+    requires { place < length kept.old.items }
+    ensures ok { OnOk result (kept.new.items ≡ take (place + 1) kept.old.items ++ entry ∷ []) }
+    ensures err { OnErr result (kept.new.items ≡ kept.old.items) }
+{
+    kept.insert(place + 1, entry)?;
+    kept.truncate(place + 2);
+    Ok(())
+}
+
+/// The colourings that a run of edits has made, the present one among them. Later ones, from
+/// which the history has moved back, are kept until an edit takes their place.
+#[derive(Drop)]
+pub struct Bench {
+    kept: Vec<Kept>,
+    position: u32,
+    alloc: Global,
+}
+
+impl Model for Bench {
+    ghost use Rattle.recolour_bench.specs.History.{History};
+    ghost use Rattle.recolour_bench.specs.Kept.{history_of, IsKeptHistory};
+
+    ghost Value = { History };
+
+    ghost view = { λ b. history_of b.kept.items b.position };
+
+    ghost invariant = { λ b. IsKeptHistory b.kept.items b.position };
+}
+
+impl Bench {
+    /// Starts a history with one entry.
+    pub fn new(alloc: Global, raw: Colouring) -> Result<Bench, NoMemory>
+        requires { All (λ colour. colour ≤ MOST_COLOUR) raw.colours }
+        ensures started { IfOk result (λ bench. bench ≡ started raw) }
+        ensures within { IfOk result IsHistory }
+    {
+        let closure = close_matrix(alloc, &raw)?;
+        let mut kept = Vec::new(alloc);
+        kept.push(Kept { raw, closure })?;
+        Ok(Bench {
+            kept,
+            position: 0,
+            alloc,
+        })
+    }
+
+    /// The place of the present entry, from 0.
+    pub fn position(&self) -> u32
+        ensures position { result ≡ self.now.position }
+        ensures within { IsHistory self.now }
+    {
+        self.position
+    }
+
+    /// The place of the last entry.
+    pub fn last_position(&self) -> u32
+        ensures last { result + 1 ≡ length self.now.entries }
+        ensures within { IsHistory self.now }
+    {
+        (self.kept.len() - 1) as u32
+    }
+
+    /// The present colouring.
+    pub fn present(&self) -> &Colouring
+        ensures value { result.now ≡ present self.now }
+        ensures within { IsRawColouring result.now }
+    {
+        &self.kept[self.position as usize].raw
+    }
+
+    /// The closure of the present colouring, number for number as it is computed from scratch.
+    pub fn closure(&self) -> &Colouring
+        ensures value { IsClosureOf result.now (present self.now) }
+        ensures only { (K : PairColouring) → IsClosureOf K (present self.now) → K ≡ result.now }
+        ensures within { IsRawColouring result.now }
+    {
+        &self.kept[self.position as usize].closure
+    }
+
+    /// Cuts the later entries, appends what the edit makes of the present colouring, and moves to
+    /// it. After any fault the bench is as it was, its later entries too.
+    pub fn edit(&mut self, edit: &Edit) -> Result<(), EditFault>
+        ensures accepted { OnOk result (Accepts self.old (edits edit.now) self.new) }
+        ensures refused { IfErr result (λ fault. fault ≢ EditFault.NoMemory → refusal self.old (edits edit.now) ≡ Some fault) }
+        ensures unchanged { OnErr result (self.new ≡ self.old) }
+        ensures step { result ≢ Err EditFault.NoMemory → Step self.old (edits edit.now) self.new }
+        ensures within { IsHistory self.new }
+    {
+        let now = &self.kept[self.position as usize];
+        if let Some(fault) = refusal_at(&now.raw, self.position, edit) {
+            return Err(fault);
+        }
+        let raw = edited_by(self.alloc, &now.raw, &now.closure, edit)?;
+        let closure = close_matrix(self.alloc, &raw)?;
+        put_after(
+            &mut self.kept,
+            self.position as usize,
+            Kept { raw, closure },
+        )?;
+        self.position += 1;
+        Ok(())
+    }
+
+    /// Moves back to the entry before.
+    pub fn undo(&mut self) -> Result<(), EditFault>
+        ensures moved { OnOk result (UndoStep self.old self.new) }
+        ensures nothing { IsErrOf result EditFault.NothingToUndo ↔ (self.old.position ≡ 0) }
+        ensures only { IsOkUnless result EditFault.NothingToUndo }
+        ensures unchanged { OnErr result (self.new ≡ self.old) }
+        ensures step { Step self.old undoes self.new }
+        ensures within { IsHistory self.new }
+    {
+        if self.position == 0 {
+            return Err(EditFault::NothingToUndo);
+        }
+        self.position -= 1;
+        Ok(())
+    }
+
+    /// Moves on to the entry after.
+    pub fn redo(&mut self) -> Result<(), EditFault>
+        ensures moved { OnOk result (RedoStep self.old self.new) }
+        ensures nothing { IsErrOf result EditFault.NothingToRedo ↔ (self.old.position + 1 ≡ length self.old.entries) }
+        ensures only { IsOkUnless result EditFault.NothingToRedo }
+        ensures unchanged { OnErr result (self.new ≡ self.old) }
+        ensures step { Step self.old redoes self.new }
+        ensures within { IsHistory self.new }
+    {
+        if self.position as usize + 1 == self.kept.len() {
+            return Err(EditFault::NothingToRedo);
+        }
+        self.position += 1;
+        Ok(())
+    }
+}

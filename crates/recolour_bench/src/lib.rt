@@ -1,0 +1,22 @@
+//! The history of a colouring under edits, with the closure of each colouring in it.
+//!
+//! * `edits`: `Edit`, what may be done to the present colouring, and `EditFault`, why it is not.
+//! * `history`: `Bench`, the colourings that were made, under a position that `undo` and `redo` move.
+//! * `refusals`: the tests of an edit, in their order.
+//! * `recolouring`: the colouring that an edit makes.
+//! * `laws`: what holds of the definitions alone.
+//!
+//! The definitions stand in `specs/`; docs/DEFINITIONS.md has them in words.
+#![tactic(auto)]
+
+mod edits;
+mod history;
+pub mod laws;
+mod recolouring;
+mod refusals;
+
+pub use edits::{Edit, EditFault};
+pub use history::{Bench, MOST_POSITION};
+
+#[cfg(test)]
+mod tests;

@@ -1,0 +1,6 @@
+pub mod FirstPlace
+pub mod FirstLine
+pub mod FirstWord
+pub mod Within
+pub mod Numbers
+pub mod WordBytes

@@ -1,0 +1,3 @@
+pub mod Signature
+pub mod Splits
+pub mod Words

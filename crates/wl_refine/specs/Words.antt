@@ -1,0 +1,16 @@
+use Rattle.std.specs.Prelude.{◌≡◌, ℕ, ◌*◌, ◌<◌, List, length, sum_by, slice_index, slice_index_or}
+use Rattle.pair_colours.specs.Colouring.{PairColouring, IsColouring, colour_at, points}
+
+-- T has the colour of (y, x) at (x, y)
+pub record IsTransposed (P T : PairColouring) : Type 0 where
+  pub colouring : IsColouring T
+  pub sizes : T.size ≡ P.size
+  pub turned : (x y : ℕ) → x < P.size → y < P.size → colour_at T x y ≡ colour_at P y x
+
+-- the sum of the products of the numbers at each place
+abbrev pub dot_product : List ℕ → List ℕ → ℕ
+dot_product xs ys = sum_by (λ z. slice_index xs z * slice_index ys z) (points (length xs))
+
+-- the word of a colour: what stands at its place among the words, or else the colour itself
+abbrev pub word_of : List ℕ → ℕ → ℕ
+word_of words colour = slice_index_or words colour colour

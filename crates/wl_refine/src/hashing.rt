@@ -1,0 +1,101 @@
+//! Rounds that hash: fast, and cautious, since a word that two pairs have by chance leaves them
+//! together, and no two pairs that are alike have different words.
+
+ghost use Rattle.std.specs.Prelude.{◌≡◌, ◌%◌, ◌^◌, IfOk, length, map, vec_len};
+ghost use Rattle.wl_refine.specs.Splits.{IsPartialRound, JoinsAlike};
+ghost use Rattle.wl_refine.specs.Words.{IsTransposed, dot_product, word_of};
+
+use pair_colours::{Colouring, NoMemory};
+use rand_core::{Rng, SeedableRng};
+use rand_xoshiro::SplitMix64;
+use std::alloc::Global;
+
+// As many pseudo-random words.
+fn random_words(alloc: Global, count: usize, seed: u64) -> Result<Vec<u32>, NoMemory>
+    ensures { IfOk result (λ words. vec_len words ≡ count) }
+{
+    let mut random = SplitMix64::seed_from_u64(seed);
+    let mut words = Vec::with_capacity(alloc, count)?;
+    for _ in 0..count {
+        words.push(random.next_u32())?;
+    }
+    Ok(words)
+}
+
+// The word of a colour.
+fn word(words: &[u32], colour: u32) -> u32
+    ensures { result ≡ word_of words.now colour }
+{
+    words.get(colour as usize).copied().unwrap_or(colour)
+}
+
+// The words of all pairs' colours, row by row.
+fn worded(alloc: Global, words: &[u32], colouring: &Colouring) -> Result<Vec<u32>, NoMemory>
+    ensures { IfOk result (λ table. table.items ≡ map (word_of words.now) colouring.now.colours) }
+{
+    let size = colouring.size();
+    let mut table = Vec::with_capacity(alloc, (size * size) as usize)?;
+    for x in 0..size {
+        for y in 0..size {
+            table.push(word(words, colouring.get(x, y)))?;
+        }
+    }
+    Ok(table)
+}
+
+// The colouring that gives each pair the colour of its transpose.
+fn transposed(alloc: Global, colouring: &Colouring) -> Result<Colouring, NoMemory>
+    ensures { IfOk result (λ turned. IsTransposed colouring.now turned) }
+{
+    let size = colouring.size();
+    let mut turned = Colouring::new(alloc, size, 0)?;
+    for x in 0..size {
+        for y in 0..size {
+            turned.set(x, y, colouring.get(y, x));
+        }
+    }
+    Ok(turned)
+}
+
+// The sum of the products of the numbers at each place, modulo 2^64.
+fn dot(xs: &[u32], ys: &[u32]) -> u64
+    requires { length xs.now ≡ length ys.now }
+    ensures { result ≡ dot_product xs.now ys.now % 2 ^ 64 }
+{
+    let mut sum: u64 = 0;
+    for z in 0..xs.len() {
+        sum = sum.wrapping_add(u64::from(xs[z]) * u64::from(ys[z]));
+    }
+    sum
+}
+
+// Gives each pair a word made of what decides which pairs are alike.
+fn hashed(alloc: Global, colouring: &Colouring) -> Result<Colouring, NoMemory>
+    ensures { IfOk result (λ hashed. JoinsAlike colouring.now hashed) }
+{
+    let size = colouring.size();
+    let n = size as usize;
+    let turned = transposed(alloc, colouring)?;
+    let first = worded(alloc, &random_words(alloc, n * n, 1)?, colouring)?;
+    let second = worded(alloc, &random_words(alloc, n * n, 2)?, &turned)?;
+    let mut hashed = Colouring::new(alloc, size, 0)?;
+    for x in 0..size {
+        let row = x as usize * n;
+        for y in 0..size {
+            let column = y as usize * n;
+            let sides = dot(&first[row..row + n], &second[column..column + n]);
+            let word = (sides >> 32) as u32;
+            let own = if x == y { word } else { word.wrapping_add(first[column + x as usize]) };
+            hashed.set(x, y, own);
+        }
+    }
+    Ok(hashed)
+}
+
+// Splits classes by words.
+pub(crate) fn hashed_round(alloc: Global, colouring: &Colouring) -> Result<Colouring, NoMemory>
+    ensures { IfOk result (λ next. IsPartialRound colouring.now next) }
+{
+    let hashed = hashed(alloc, colouring)?;
+    colouring.meet(alloc, &hashed)
+}

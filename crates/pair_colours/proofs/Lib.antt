@@ -14,3 +14,4 @@ pub mod FirstPair
 pub mod Meets
 pub mod NumberedLists
 pub mod Writes
+pub mod Reaching

@@ -20,7 +20,7 @@ use Rattle.recolour_bench.specs.declared.edits.EditFault.{EditFault}
 use Rattle.recolour_bench.specs.declared.edits.EditFault.TheVariants.{PointRange, ColourRange, ColourAbsent, HistoryFull, NothingToUndo, NothingToRedo}
 use Rattle.recolour_bench.specs.declared.history.TheConstants.{MOST_POSITION}
 use Rattle.recolour_bench.specs.Recolouring.{has_colour, is_pair, least_unused, recoloured, edited}
-use Rattle.recolour_bench.specs.History.{History, IsHistory, IsRawColouring, no_entry, present}
+use Rattle.recolour_bench.specs.History.{History, IsHistory, IsRawColouring, no_entry, present, started}
 use Rattle.recolour_bench.specs.Steps.{Act, edits, undoes, redoes, first_fault, pair_tests, colour_tests, edit_tests, edit_refusal, EditStep, UndoStep, RedoStep, Accepts, Refuses, Step}
 use Rattle.recolour_bench.proofs.Unused.{least_unused-le}
 
@@ -116,6 +116,17 @@ IsRawColouring-edited C K (Join keep gone) c k allowed =
     (λ u v hu hv. either-raw (colour_at C u v == gone) keep (colour_at C u v) small (colour_at-raw C c u v hu hv))
 IsRawColouring-edited C K Adopt c k allowed = IsRawColouring-closure C K c k
 
+-- the only entry of a list of one
+only_entry : (C : PairColouring) (k : ℕ) (d : PairColouring) → k < 1 → C ≡ get_or (C ∷ []) k d
+only_entry C k d l = let zero_at : k ≡ 0 = omega (arith, l) in sym (ap (λ j. get_or (C ∷ []) j d) zero_at)
+
+pub IsHistory-started : (C : PairColouring) → IsRawColouring C → IsHistory (started C)
+IsHistory-started C c = record {
+  inside = omega arith;
+  few = omega arith;
+  within = λ k d l. subst IsRawColouring (only_entry C k d l) c;
+}
+
 pub IsRawColouring-present : (h : History) → IsHistory h → IsRawColouring (present h)
 IsRawColouring-present h is = is.within h.position no_entry is.inside
 
@@ -128,7 +139,7 @@ IsHistory-edited h e K h2 is s = record {
       subst (All IsRawColouring) (sym s.entries)
       (All-append IsRawColouring (take (h.position + 1) h.entries) (edited (present h) K e ∷ [])
       (All-take IsRawColouring (h.position + 1) h.entries is.within)
-      (λ k d l. subst IsRawColouring (only k d l) (IsRawColouring-edited (present h) K e (IsRawColouring-present h is) s.closure parts.0)));
+      (λ k d l. subst IsRawColouring (only_entry (edited (present h) K e) k d l) (IsRawColouring-edited (present h) K e (IsRawColouring-present h is) s.closure parts.0)));
 }
   where
     parts : (first_fault (edit_tests (present h) e) ≡ None) × (h.position ≡ MOST_POSITION → ⊥)
@@ -141,9 +152,6 @@ IsHistory-edited h e K h2 is s = record {
 
     room : h.position + 2 ≤ MOST_POSITION + 1
     room = ⊎_elim (λ e. absurd (parts.1 e)) (λ ne. omega (arith, ne, is.inside, is.few)) (cases_eq h.position MOST_POSITION)
-
-    only : (k : ℕ) (d : PairColouring) → k < 1 → edited (present h) K e ≡ get_or (edited (present h) K e ∷ []) k d
-    only k d l = let zero_at : k ≡ 0 = omega (arith, l) in sym (ap (λ j. get_or (edited (present h) K e ∷ []) j d) zero_at)
 
 -- an undo at the first entry and a redo at the last are refused
 pub Refuses-undo : (h : History) → h.position ≡ 0 → Refuses h undoes h

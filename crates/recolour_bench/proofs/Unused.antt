@@ -1,7 +1,7 @@
 -- The least number that no pair has.
 use Rattle.std.proofs.Common.{◌≡◌, ◌==◌, ◌||◌, ℕ, zero, suc, ◌+◌, ◌*◌, ◌<◌, ◌≤◌, Bool, true, false, not, cond, List, [], ◌∷◌, ltb, length, get_or, set, take, filter, find, position, Option, Some, None, is_some, Decides, refl, sym, ap, subst, ◌∙◌, arith, ⊎_elim}
 use Rattle.std.specs.List.{AllByRecursion, list_any, position_or_len}
-use Rattle.std.proofs.lemmas.Bool.{cases_Bool, cases_lt, cases_eq, eqb-true, eq-eqb, ne_eqb, lt-ltb, or_right, not_from_false, both_ways}
+use Rattle.std.proofs.lemmas.Bool.{cases_Bool, cases_lt, cases_eq, eqb-true, eq-eqb, ne_eqb, lt-ltb, or_right, not-false, not_from_false, both_ways}
 use Rattle.std.proofs.lemmas.Bool.Decides.{same_from_decides}
 use Rattle.std.proofs.lemmas.List.Filters.{length-filter_both}
 use Rattle.std.proofs.lemmas.List.Folds.{Any-from_list_any, list_any_at, list_any_more}
@@ -123,21 +123,18 @@ least_unused-le C h =
     (λ l. let used : (c : ℕ) → c < n → in_list C.colours c ≡ true = λ c k.
     let at : get_or (points n) c 0 ≡ c = get_or-range_with_len 0 n c 0 k ∙ omega arith in
     let fails : free c ≡ false = ap free (sym at) ∙ fails_before_first free (points n) c 0 (omega (arith, k, l)) in
-    in_list-has_colour C h c ∙ not-not (has_colour C c) fails in
+    in_list-has_colour C h c ∙ not-false (has_colour C c) fails in
     absurd (omega (arith, pigeonhole n C.colours used, h.has_pairs)))
     (cases_lt (least_unused C) n)
-  where
-    not-not : (b : Bool) → not b ≡ false → b ≡ true
-    not-not true e = refl
-    not-not false e = let z : true ≡ false = e in cc
 
+-- no pair has it, and each smaller number is a colour
 pub IsLeastUnused-least_unused : (C : PairColouring) → IsColouring C → IsLeastUnused C (least_unused C)
 IsLeastUnused-least_unused C h = record {
   unused = λ u. both_ways (free (least_unused C)) (ap not ((Decides-has_colour C (least_unused C)).1 u)) passes;
   least = λ smaller l.
       let at : get_or (points n) smaller 0 ≡ smaller = get_or-range_with_len 0 n smaller 0 (omega (arith, low, l)) ∙ omega arith in
       let fails : free smaller ≡ false = ap free (sym at) ∙ fails_before_first free (points n) smaller 0 l in
-      (Decides-has_colour C smaller).0 (not-not (has_colour C smaller) fails);
+      (Decides-has_colour C smaller).0 (not-false (has_colour C smaller) fails);
 }
   where
     n : ℕ
@@ -153,10 +150,6 @@ IsLeastUnused-least_unused C h = record {
     passes =
         let at : get_or (points n) (least_unused C) 0 ≡ least_unused C = get_or-range_with_len 0 n (least_unused C) 0 low ∙ omega arith in
         ap free (sym at) ∙ passes_at_first free (points n) 0 (omega (arith, low, length-range_with_len 0 n))
-
-    not-not : (b : Bool) → not b ≡ false → b ≡ true
-    not-not true e = refl
-    not-not false e = let z : true ≡ false = e in cc
 
 -- the first flag that is down is at the least unused number
 pub least_unused-flag : (C : PairColouring) → IsColouring C → (used : List Bool) → length used ≡ C.size * C.size + 1 → ((number : ℕ) → number < length used → get_or used number false ≡ has_colour C number)

@@ -9,7 +9,7 @@ use Rattle.recolour_bench.specs.declared.edits.EditFault.{EditFault}
 use Rattle.recolour_bench.specs.declared.edits.EditFault.TheVariants.{PointRange, ColourRange, ColourAbsent, HistoryFull, NothingToUndo, NothingToRedo}
 use Rattle.recolour_bench.specs.declared.history.TheConstants.{MOST_POSITION}
 use Rattle.recolour_bench.specs.Recolouring.{has_colour, edited, IsLeastUnused, least_unused}
-use Rattle.recolour_bench.specs.History.{History, IsHistory, IsRawColouring, present}
+use Rattle.recolour_bench.specs.History.{History, IsHistory, IsRawColouring, present, started}
 
 -- an edit, or a move to the entry before or after
 pub data Act : Type 0 where
@@ -86,6 +86,10 @@ pub record Refuses (h : History) (act : Act) (h2 : History) : Type 0 where
 -- the act leads from h to h2
 abbrev pub Step : History → Act → History → Type 0
 Step h act h2 = Accepts h act h2 ⊎ Refuses h act h2
+
+-- a colouring within the limits starts a history
+abbrev pub StartIsHistory : Type 0
+StartIsHistory = (C : PairColouring) → IsRawColouring C → IsHistory (started C)
 
 -- every act leads from every history to one history, and to no other
 abbrev pub StepExists : Type 0

@@ -1,10 +1,11 @@
 //! Laws over the definitions alone. Each is the contract of a function that does nothing.
 
-ghost use Rattle.recolour_bench.specs.Steps.{StepExists, StepKeeps, StepIsUnique, FixTakesLeast};
+ghost use Rattle.recolour_bench.specs.Steps.{StartIsHistory, StepExists, StepKeeps, StepIsUnique, FixTakesLeast};
 
-/// Every act leads from every history to exactly one, which is a history again. So there is one
-/// run along each list of acts.
+/// A colouring within the limits starts a history, and every act leads from every history to
+/// exactly one, which is a history again. So there is exactly one run along each list of acts.
 pub fn steps()
+    ensures starts { StartIsHistory }
     ensures exists { StepExists }
     ensures keeps { StepKeeps }
     ensures unique { StepIsUnique }

@@ -17,3 +17,6 @@ pub use cut_lines::{TextLines, lines};
 pub use cut_words::{TextWords, is_blank, words};
 pub use digits::read_number;
 pub use text_part::TextPart;
+
+#[cfg(test)]
+mod tests;

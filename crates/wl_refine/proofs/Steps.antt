@@ -1,8 +1,9 @@
-use Rattle.std.proofs.Common.{◌≡◌, ℕ, ◌<◌, ⊎_elim, refl, sym, ◌∙◌, arith}
-use Rattle.pair_colours.specs.Colouring.{PairColouring, IsColouring, Refines, colour_at}
-use Rattle.pair_colours.specs.Closure.{Coherent, IsClosure}
-use Rattle.pair_colours.specs.Naming.{IsNamedMeet}
-use Rattle.pair_colours.specs.Rounds.{Alike, IsRound, IsOnTheWay}
+use Rattle.std.proofs.Common.{◌≡◌, ℕ, ◌<◌, ⊎_elim, refl, sym, subst, ◌∙◌, arith}
+use Rattle.pair_colours.specs.Colouring.{PairColouring, Refines}
+use Rattle.pair_colours.specs.Closure.{Coherent, IsClosure, IsClosureOf}
+use Rattle.pair_colours.specs.Naming.{named_of, IsNamedMeet}
+use Rattle.pair_colours.specs.Rounds.{IsRound, IsOnTheWay}
+use Rattle.pair_colours.proofs.Closures.{IsClosureOf-named_of}
 use Rattle.pair_colours.proofs.Measure.{alike_places, fewer_or_refines}
 use Rattle.pair_colours.proofs.Places.{Refines-trans}
 use Rattle.pair_colours.proofs.Rounds.{alike_in, round_refines}
@@ -59,3 +60,7 @@ Coherent-still P R s r = record {
 -- a coherent colouring on the way is the closure
 pub IsClosure-coherent : (C P : PairColouring) → IsOnTheWay C P → Coherent P → IsClosure P C
 IsClosure-coherent C P w h = record { colouring = w.colouring; coherent = h; refines = w.refines; coarsest = w.coarse }
+
+-- the naming of a closure is the closure
+pub named_closure : (C K N : PairColouring) → IsClosure K C → N ≡ named_of K → IsClosureOf N C
+named_closure C K N k e = subst (λ n. IsClosureOf n C) (sym e) (IsClosureOf-named_of K C k)

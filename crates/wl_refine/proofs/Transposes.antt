@@ -1,4 +1,4 @@
-use Rattle.std.proofs.Common.{◌≡◌, ℕ, ◌*◌, ap, subst, sym, ◌∙◌}
+use Rattle.std.proofs.Common.{ℕ, ◌*◌}
 use Rattle.pair_colours.specs.Colouring.{PairColouring, IsColouring, colour_at}
 use Rattle.wl_refine.specs.Words.{IsTransposed}
 use Rattle.wl_refine.proofs.Filled.{IsFilled, IsColouring-filled, filled_at}

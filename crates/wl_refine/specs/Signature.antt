@@ -1,3 +1,4 @@
+-- The signature of a pair, in which the exact round finds it.
 use Rattle.std.specs.Prelude.{◌≡◌, ◌==◌, ℕ, ◌+◌, ◌*◌, ◌^◌, List, [], ◌∷◌, ◌++◌, map, if◌then◌else◌}
 use Rattle.std.specs.List.Sorted.{IsPermutation, IsNonDecreasing}
 use Rattle.pair_colours.specs.Colouring.{PairColouring, colour_at, points}

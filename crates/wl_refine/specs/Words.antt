@@ -1,3 +1,4 @@
+-- The parts of the words of pairs.
 use Rattle.std.specs.Prelude.{◌≡◌, ℕ, ◌*◌, ◌<◌, List, length, sum_by, slice_index, slice_index_or}
 use Rattle.pair_colours.specs.Colouring.{PairColouring, IsColouring, colour_at, points}
 

@@ -1,5 +1,9 @@
-//! Rounds that hash: fast, and cautious, since a word that two pairs have by chance leaves them
-//! together, and no two pairs that are alike have different words.
+//! Rounds by hashing: each pair gets a word, and pairs of one class with two words are parted.
+//!
+//! The word of (x, y) is a sum over the points z of a product, of one pseudo-random number for the
+//! colour of (x, z) and another for the colour of (z, y). So pairs that are alike have one word, and
+//! each split is forced. Two pairs that are not alike may have one word by chance, and then stay
+//! together. Whether that has happened only the exact round can say.
 
 ghost use Rattle.std.specs.Prelude.{◌≡◌, ◌%◌, ◌^◌, IfOk, length, map, vec_len};
 ghost use Rattle.wl_refine.specs.Splits.{IsPartialRound, JoinsAlike};
@@ -10,7 +14,7 @@ use rand_core::{Rng, SeedableRng};
 use rand_xoshiro::SplitMix64;
 use std::alloc::Global;
 
-// As many pseudo-random words.
+// So many pseudo-random words.
 fn random_words(alloc: Global, count: usize, seed: u64) -> Result<Vec<u32>, NoMemory>
     ensures { IfOk result (λ words. vec_len words ≡ count) }
 {
@@ -22,7 +26,7 @@ fn random_words(alloc: Global, count: usize, seed: u64) -> Result<Vec<u32>, NoMe
     Ok(words)
 }
 
-// The word of a colour.
+// The word of a colour. A colour past the list, as only a raw colouring has, is its own word.
 fn word(words: &[u32], colour: u32) -> u32
     ensures { result ≡ word_of words.now colour }
 {
@@ -69,7 +73,7 @@ fn dot(xs: &[u32], ys: &[u32]) -> u64
     sum
 }
 
-// Gives each pair a word made of what decides which pairs are alike.
+// Gives each pair its word, as a colour. Off the diagonal the word of the transposed colour is in it.
 fn hashed(alloc: Global, colouring: &Colouring) -> Result<Colouring, NoMemory>
     ensures { IfOk result (λ hashed. JoinsAlike colouring.now hashed) }
 {
@@ -85,14 +89,18 @@ fn hashed(alloc: Global, colouring: &Colouring) -> Result<Colouring, NoMemory>
             let column = y as usize * n;
             let sides = dot(&first[row..row + n], &second[column..column + n]);
             let word = (sides >> 32) as u32;
-            let own = if x == y { word } else { word.wrapping_add(first[column + x as usize]) };
+            let own = if x == y {
+                word
+            } else {
+                word.wrapping_add(first[column + x as usize])
+            };
             hashed.set(x, y, own);
         }
     }
     Ok(hashed)
 }
 
-// Splits classes by words.
+// Parts the pairs of a class that have two words.
 pub(crate) fn hashed_round(alloc: Global, colouring: &Colouring) -> Result<Colouring, NoMemory>
     ensures { IfOk result (λ next. IsPartialRound colouring.now next) }
 {

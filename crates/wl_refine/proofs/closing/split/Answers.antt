@@ -1,5 +1,3 @@
-use Rattle.std.proofs.Common.{◌≡◌, IsTrue}
-use Rattle.pair_colours.specs.Colouring.{Refines}
 use Rattle.wl_refine.proofs.Steps.{IsPartialRound-round, Coherent-still}
 use Rattle.wl_refine.proofs.closing.split.Goals as goal
 

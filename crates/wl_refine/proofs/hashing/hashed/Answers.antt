@@ -1,9 +1,8 @@
-use Rattle.std.proofs.Common.{◌≡◌, ◌∙◌, ◌+◌, ◌*◌, ◌<◌, ℕ, arith, ap, sym, subst, map, length}
+use Rattle.std.proofs.Common.{◌≡◌, ◌∙◌, ◌+◌, ◌*◌, ◌<◌, arith, ap, sym, subst, map, length}
 use Rattle.std.proofs.lemmas.List.{length-map}
 use Rattle.pair_colours.proofs.Places.{place_below}
-use Rattle.pair_colours.specs.Colouring.{PairColouring}
 use Rattle.wl_refine.specs.Words.{word_of}
-use Rattle.wl_refine.proofs.Filled.{IsFilled, IsFilled-start, IsFilled-more}
+use Rattle.wl_refine.proofs.Filled.{IsFilled, IsFilled-more}
 use Rattle.wl_refine.proofs.Hashes.{pair_word, AreWords, word_on_diagonal, word_off_diagonal, JoinsAlike-filled}
 use Rattle.wl_refine.proofs.hashing.hashed.Goals as goal
 use Rattle.wl_refine.proofs.hashing.hashed.Goals.{then-x-y, else-x-y}

@@ -1,0 +1,25 @@
+//! The program `cohere`: hands its words to `cohere_core::run`, over the files, the standard input
+//! and the two outputs of the machine.
+#![tactic(auto)]
+
+use cohere_core::{Status, run};
+use scheme_io::{HostSink, HostStore};
+use std::env;
+use std::process::ExitCode;
+
+/// The exit status where the machine does not give the program its words. No `Status` has it.
+const NO_WORDS: u8 = 7;
+
+fn main(rt: HostRuntime) -> ExitCode {
+    let Ok(words) = env::args(&rt) else {
+        return ExitCode::from(NO_WORDS);
+    };
+    let Ok(words) = words.skip(1).collect::<Vec<String>>(rt.alloc()) else {
+        return ExitCode::from(Status::NoMemory.code());
+    };
+    let mut store = HostStore::new(&rt);
+    let mut out = HostSink::new(rt.stdout());
+    let mut err = HostSink::new(rt.stderr());
+    let status = run(rt.alloc(), &words, &mut store, &mut out, &mut err);
+    ExitCode::from(status.code())
+}

@@ -1,0 +1,6 @@
+pub mod Pieces
+pub mod Files
+pub mod Runs
+pub mod ReadRelations
+pub mod Outputs
+pub mod Halting

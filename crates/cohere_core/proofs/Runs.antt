@@ -1,0 +1,272 @@
+-- Runs of answers.
+use Rattle.std.proofs.Common.{◌≡◌, ◌≤◌, ◌<◌, ◌⊎◌, ℕ, ◌+◌, Bool, true, false, not, cond, List, [], ◌∷◌, ◌++◌, length, get_or, take, drop, Option, ◌-◌, Some, None, ⊎_elim, refl, sym, ap, subst, ◌∙◌, arith, append_assoc, inl, inr, suc, zero}
+use Rattle.std.proofs.lemmas.List.{take_more, drop_more, take-append-drop, append-nil, get_or-drop, length-drop}
+use Rattle.std.proofs.lemmas.Option.{slice_get-get_or, slice_get_within}
+use Rattle.std.specs.Prelude.{All, Result, Ok, Err, IfErr, OnErr, MatchOption, find, option_map, slice_get, codes}
+use Rattle.std.proofs.KnownBytes.{Appends-nil, Appends-trans}
+use Rattle.std.specs.Io.KnownBytes.{Appends}
+use Rattle.scheme_io.specs.Bytes.{AppendsPart}
+use Rattle.pair_colours.specs.Colouring.{PairColouring, FitsColouring}
+use Rattle.pair_colours.specs.Naming.{rank_of}
+use Rattle.pair_colours.proofs.Closures.{named_closure_exists}
+use Rattle.recolour_bench.specs.History.{History, IsHistory, present, started}
+use Rattle.recolour_bench.specs.declared.edits.EditFault.{EditFault}
+use Rattle.recolour_bench.specs.Steps as steps
+use Rattle.recolour_bench.proofs.Stepping.{IsRawColouring-closure, IsRawColouring-present, step_exists, step_keeps}
+use Rattle.report_text.specs.EditLines.{ok_text, refused_text_of}
+use Rattle.report_text.specs.Matrices.{show_text, raw_text}
+use Rattle.report_text.specs.Classes.{classes_text_of}
+use Rattle.report_text.specs.Constants.{constants_text_of}
+use Rattle.report_text.specs.Tests.{tests_text_of}
+use Rattle.report_text.specs.Arrays.{array_text_of}
+use Rattle.scheme_tests.specs.declared.properties.SchemeTests.{SchemeTests}
+use Rattle.scheme_tests.specs.Law.{AreAnswers}
+use Rattle.scheme_tests.proofs.SomeAnswers.{answers_exist}
+use Rattle.pair_colours.specs.Closure.{IsClosureOf}
+use Rattle.drg_arrays.specs.declared.answer.ArrayAnswer.{ArrayAnswer}
+use Rattle.drg_arrays.specs.declared.answer.ArrayAnswer.TheVariants as arrays
+use Rattle.drg_arrays.proofs.SomeAnswer.{answer_exists}
+use Rattle.script_text.specs.declared.acts.Act.{Act}
+use Rattle.script_text.specs.declared.acts.Act.TheVariants.{Set, Both, Fix, Join, Adopt, Undo, Redo, Show, Raw, Classes, Constants, Tests, Array}
+use Rattle.script_text.specs.declared.acts.Line.{Line}
+use Rattle.cohere_core.specs.declared.answering.SessionFault.{SessionFault}
+use Rattle.cohere_core.specs.declared.answering.SessionFault.TheVariants.{SinkFailed, NoMemory}
+use Rattle.cohere_core.specs.Acts.{is_built, AreBuilt, first_unbuilt}
+use Rattle.cohere_core.specs.Answer.{AnswersArray, OfConfiguration, IsAccepted, IsHalfway, Moves, Tells, Answers, Runs, Answered, Stopped, edit_word, move_of}
+use Rattle.cohere_core.specs.Output.{AddsScript, AddsScriptFront, ScriptOutput}
+use Rattle.cohere_core.proofs.Pieces.{take_into}
+
+-- ---- one answer
+
+-- every history has a configuration
+has_configuration : (h : History) → IsHistory h → (P : PairColouring → List ℕ → Type 0)
+    → ((K : PairColouring) → IsClosureOf K (present h) → FitsColouring K → (t : List ℕ) × P K t)
+    → (t : List ℕ) × OfConfiguration h (λ K. P K t)
+has_configuration h i P text =
+    let raw = IsRawColouring-present h i in
+    let K = named_closure_exists (present h) raw.fits.colouring in
+    let t = text K.0 K.1 (IsRawColouring-closure (present h) K.0 raw K.1).fits in
+    (t.0, record { configuration = K.0; closure = K.1; holds = t.1 })
+
+-- every edit, undo and redo is answered
+has_move : (h : History) (move : steps.Act) → IsHistory h → (next : History) × (t : List ℕ) × Moves h move next t
+has_move h move i =
+    let s = step_exists h move i in
+    let j = step_keeps h move s.0 i s.1 in
+    ⊎_elim
+    (λ accepts. let t = has_configuration s.0 j (λ K t. t ≡ ok_text K.size (rank_of K)) (λ K _ _. (ok_text K.size (rank_of K), refl)) in (s.0, t.0, inl (accepts, t.1)))
+    (λ refuses. (s.0, refused_text_of (edit_word refuses.fault), inr (refuses.fault, refuses.refused, refuses.same, refl)))
+    s.1
+
+has_query : (h : History) (act : Act) → IsHistory h → is_built act ≡ true → move_of act ≡ None → (t : List ℕ) × Tells h act t
+has_query h Show i b m = has_configuration h i (λ K t. t ≡ show_text K) (λ K _ _. (show_text K, refl))
+has_query h Raw i b m = (raw_text (present h), refl)
+has_query h Classes i b m = has_configuration h i (λ K t. t ≡ classes_text_of K) (λ K _ _. (classes_text_of K, refl))
+has_query h Constants i b m = has_configuration h i (λ K t. t ≡ constants_text_of K) (λ K _ _. (constants_text_of K, refl))
+has_query h Tests i b m =
+    has_configuration h i (λ K t. (tests : SchemeTests) × AreAnswers K tests × (t ≡ tests_text_of tests))
+    (λ K is fits. let answers = answers_exist K (record { fits = fits; coherent = is.closure.coherent; named = is.named }) in (tests_text_of answers.0, (answers.0, answers.1, refl)))
+has_query h (Array set) i b m =
+    has_configuration h i (λ K t. AnswersArray K set t) (λ K _ fits. ⊎_elim
+    (λ bad. (refused_text_of (codes "BadSet"), inl (bad, refl)))
+    (λ good. (array_text_of good.1.0, inr (good.0, (good.1.0, good.1.1, refl))))
+    (answer_exists K fits set))
+has_query h (Set x y colour) i b m = absurd cc
+has_query h (Both x y colour) i b m = absurd cc
+has_query h (Fix x) i b m = absurd cc
+has_query h (Join keep gone) i b m = absurd cc
+has_query h Adopt i b m = absurd cc
+has_query h Undo i b m = absurd cc
+has_query h Redo i b m = absurd cc
+has_query h act i b m = absurd cc
+
+-- every act that is built has an answer
+pub has_answer : (h : History) (act : Act) → IsHistory h → is_built act ≡ true → (next : History) × (t : List ℕ) × Answers h act next t
+has_answer h act i b =
+    elim (move_of act) as (λ m. move_of act ≡ m → (next : History) × (t : List ℕ) × MatchOption m ((next ≡ h) × Tells h act t) (λ move. Moves h move next t)) [
+      | None ↦ λ e. let t = has_query h act i b e in (h, t.0, (refl, t.1))
+      | Some move ↦ λ e. has_move h move i
+    ] refl
+
+-- an answer leads to a history
+answer_keeps : (h : History) (act : Act) (next : History) (t : List ℕ) → IsHistory h → Answers h act next t → IsHistory next
+answer_keeps h act next t i a =
+    elim (move_of act) as (λ m. MatchOption m ((next ≡ h) × Tells h act t) (λ move. Moves h move next t) → IsHistory next) [
+      | None ↦ λ q. subst IsHistory (sym q.0) i
+      | Some move ↦ λ m. ⊎_elim (λ accepts. step_keeps h move next i (inl accepts.0)) (λ refused. subst IsHistory (sym refused.2) i) m
+    ] a
+
+-- and has bytes
+array_has_bytes : (answer : ArrayAnswer) → 0 < length (array_text_of answer)
+array_has_bytes (arrays.Array b c) = omega arith
+array_has_bytes (arrays.Disconnected x y) = omega arith
+array_has_bytes (arrays.Irregular x y u v) = omega arith
+
+query_has_bytes : (h : History) (act : Act) (t : List ℕ) → Tells h act t → 0 < length t
+query_has_bytes h Show t a = subst (λ (s : List ℕ). 0 < length s) (sym a.holds) (omega arith)
+query_has_bytes h Raw t a = subst (λ (s : List ℕ). 0 < length s) (sym a) (omega arith)
+query_has_bytes h Classes t a = subst (λ (s : List ℕ). 0 < length s) (sym a.holds) (omega arith)
+query_has_bytes h Constants t a = subst (λ (s : List ℕ). 0 < length s) (sym a.holds) (omega arith)
+query_has_bytes h Tests t a = subst (λ (s : List ℕ). 0 < length s) (sym a.holds.2) (omega arith)
+query_has_bytes h (Array set) t a =
+    ⊎_elim
+    (λ bad. subst (λ (s : List ℕ). 0 < length s) (sym bad.1) (omega arith))
+    (λ good. subst (λ (s : List ℕ). 0 < length s) (sym good.1.2) (array_has_bytes good.1.0))
+    a.holds
+query_has_bytes h act t a = absurd a
+
+answer_has_bytes : (h : History) (act : Act) (next : History) (t : List ℕ) → Answers h act next t → 0 < length t
+answer_has_bytes h act next t a =
+    elim (move_of act) as (λ m. MatchOption m ((next ≡ h) × Tells h act t) (λ move. Moves h move next t) → 0 < length t) [
+      | None ↦ λ q. query_has_bytes h act t q.1
+      | Some move ↦ λ m. ⊎_elim (λ accepts. subst (λ (s : List ℕ). 0 < length s) (sym accepts.1.holds) (omega arith)) (λ refused. subst (λ (s : List ℕ). 0 < length s) (sym refused.3) (omega arith)) m
+    ] a
+
+-- ---- runs
+
+runs_keep : (lines : List Line) (h end : History) (t : List ℕ) → IsHistory h → Runs h lines end t → IsHistory end
+runs_keep [] h end t i run = subst IsHistory (sym run.0) i
+runs_keep (line ∷ lines) h end t i run = runs_keep lines run.0 end run.2 (answer_keeps h line.act run.0 run.1 i run.3) run.4
+
+-- a run goes on with another
+runs-append : (xs ys : List Line) (h m end : History) (t s : List ℕ) → Runs h xs m t → Runs m ys end s → Runs h (xs ++ ys) end (t ++ s)
+runs-append [] ys h m end t s first second =
+    subst (λ (l : List ℕ). Runs h ys end (l ++ s)) (sym first.1) (subst (λ (k : History). Runs k ys end s) first.0 second)
+runs-append (x ∷ xs) ys h m end t s (next, one, rest, answers, run, is) second =
+    (next, one, rest ++ s, answers, runs-append xs ys next m end rest s run second, ap (λ (l : List ℕ). l ++ s) is ∙ append_assoc one rest s)
+
+one_line : (line : Line) (m next : History) (t : List ℕ) → Answers m line.act next t → Runs m (line ∷ []) next t
+one_line line m next t a = (next, t, [], a, (refl, refl), sym (append-nil t))
+
+AreBuilt-tail : (line : Line) (lines : List Line) → AreBuilt (line ∷ lines) → AreBuilt lines
+AreBuilt-tail line lines b = λ k d l. b (suc k) d (omega (arith, l))
+
+has_run : (lines : List Line) (h : History) → IsHistory h → AreBuilt lines → (end : History) × (t : List ℕ) × Runs h lines end t
+has_run [] h i b = (h, [], (refl, refl))
+has_run (line ∷ lines) h i b =
+    let a = has_answer h line.act i (b 0 line (omega arith)) in
+    let rest = has_run lines a.0 (answer_keeps h line.act a.0 a.1 i a.2) (AreBuilt-tail line lines b) in
+    (rest.0, a.1 ++ rest.1, (a.0, a.1, rest.1, a.2, rest.2, refl))
+
+-- no line is unbuilt
+pub built_from_none : (lines : List Line) → first_unbuilt lines ≡ None → AreBuilt lines
+built_from_none [] h = λ k d l. absurd (omega (arith, l))
+built_from_none (line ∷ lines) h = λ k d l. by (is_built line.act) refl (built_from_none lines) k d l
+  where
+    by : (b : Bool) → is_built line.act ≡ b → (first_unbuilt lines ≡ None → AreBuilt lines) → AreBuilt (line ∷ lines)
+    by true e again =
+        let rest = again (sym (ap (λ b. option_map (λ (l : Line). l.number) (cond (not b) (Some line) (find (λ (l : Line). not (is_built l.act)) lines))) e) ∙ h) in
+        at_each e rest
+      where
+        at_each : is_built line.act ≡ true → AreBuilt lines → AreBuilt (line ∷ lines)
+        at_each e rest zero d l = e
+        at_each e rest (suc k) d l = rest k d (omega (arith, l))
+    by false e again =
+        let z : Some line.number ≡ None = sym (ap (λ b. option_map (λ (l : Line). l.number) (cond (not b) (Some line) (find (λ (l : Line). not (is_built l.act)) lines))) e) ∙ h in
+        absurd cc
+
+-- ---- lines that are answered one after the other
+
+pub none_answered : (h : History) (lines : List Line) (a : Option (List ℕ)) → Answered h (take 0 lines) h a a
+none_answered h lines a = ([], (refl, refl), Appends-nil a)
+
+pub one_more : (lines : List Line) (i : ℕ) (d : Line) (h m next : History) (a b c : Option (List ℕ)) (first : List ℕ) → i < length lines → Answers m (get_or lines i d).act next first
+    → Answered h (take i lines) m a b → Appends b c first → Answered h (take (i + 1) lines) next a c
+one_more lines i d h m next a b c first lt answers so_far added = (
+  so_far.0 ++ first,
+  subst (λ (l : List Line). Runs h l next (so_far.0 ++ first)) (sym (take_more lines i d lt)) (runs-append (take i lines) (get_or lines i d ∷ []) h m next so_far.0 first so_far.1 (one_line (get_or lines i d) m next first answers)),
+  Appends-trans a b c _ _ so_far.2 added,
+)
+
+-- the sink failed in an answer
+pub cut_short : (lines : List Line) (i : ℕ) (d : Line) (h m next : History) (a b c : Option (List ℕ)) (answer : List ℕ) → i < length lines → Answers m (get_or lines i d).act next answer
+    → Answered h (take i lines) m a b → AppendsPart b c answer → Stopped SinkFailed h lines next a c
+cut_short lines i d h m next a b c answer lt answers so_far part = record {
+  count = i;
+  at = m;
+  text = so_far.0;
+  run = so_far.1;
+  line = get_or lines i d;
+  is_next = slice_get-get_or lines i d lt;
+  next = next;
+  answer = answer;
+  answers = answers;
+  part = part.0;
+  proper = part.1;
+  added = Appends-trans a b c _ _ so_far.2 part.2;
+  whole = λ e. absurd cc;
+  stands = inr refl;
+  carried_out = λ e. refl;
+}
+
+-- an answer was not made, and the bench stands before its line or after it
+not_made : (lines : List Line) (i : ℕ) (d : Line) (h m next bench : History) (a b : Option (List ℕ)) (answer : List ℕ) → i < length lines → Answers m (get_or lines i d).act next answer
+    → Answered h (take i lines) m a b → (bench ≡ m) ⊎ (bench ≡ next) → Stopped NoMemory h lines bench a b
+not_made lines i d h m next bench a b answer lt answers so_far stands = record {
+  count = i;
+  at = m;
+  text = so_far.0;
+  run = so_far.1;
+  line = get_or lines i d;
+  is_next = slice_get-get_or lines i d lt;
+  next = next;
+  answer = answer;
+  answers = answers;
+  part = 0;
+  proper = answer_has_bytes m (get_or lines i d).act next answer answers;
+  added = subst (Appends a b) (sym (append-nil so_far.0)) so_far.2;
+  whole = λ e. refl;
+  stands = stands;
+  carried_out = λ e. absurd cc;
+}
+
+pub unanswered : (lines : List Line) (i : ℕ) (d : Line) (h m bench : History) (a b : Option (List ℕ)) → i < length lines → IsHistory m → AreBuilt lines
+    → Answered h (take i lines) m a b → IsHalfway m bench (Answers m (get_or lines i d).act bench) → Stopped NoMemory h lines bench a b
+unanswered lines i d h m bench a b lt history built so_far (inl before) =
+    let s = has_answer m (get_or lines i d).act history (built i d lt) in
+    not_made lines i d h m s.0 bench a b s.1 lt s.2 so_far (inl before)
+unanswered lines i d h m bench a b lt history built so_far (inr after) =
+    not_made lines i d h m bench bench a b after.0 lt after.1 so_far (inr refl)
+
+-- ---- the output of a script
+
+-- the lines around one of them
+around : (lines : List Line) (k : ℕ) (line : Line) → slice_get lines k ≡ Some line → take k lines ++ line ∷ drop (k + 1) lines ≡ lines
+around lines k line e =
+    let inside = slice_get_within lines k line e in
+    let both : Some line ≡ Some (get_or lines k line) = sym e ∙ slice_get-get_or lines k line inside in
+    let at : line ≡ get_or lines k line = cc in
+    ap (λ (l : List Line). take k lines ++ l) (ap (λ (x : Line). x ∷ drop (k + 1) lines) at ∙ sym (drop_more lines k line inside)) ∙ take-append-drop k lines
+
+AreBuilt-drop : (lines : List Line) (k : ℕ) → AreBuilt lines → AreBuilt (drop k lines)
+AreBuilt-drop lines k b = λ j d l. subst (λ (x : Line). is_built x.act ≡ true) (sym (get_or-drop k lines j d)) (b (k + j) d (omega (arith, l, length-drop k lines)))
+
+-- what was written when a session stopped is a front of a whole output
+pub front_of_output : (fault : SessionFault) (C : PairColouring) (lines : List Line) (bench : History) (a b : Option (List ℕ)) → IsHistory (started C) → AreBuilt lines
+    → Stopped fault (started C) lines bench a b → AddsScriptFront C lines a b
+front_of_output fault C lines bench a b i built s =
+    let after = answer_keeps s.at s.line.act s.next s.answer (runs_keep (take s.count lines) (started C) s.at s.text i s.run) s.answers in
+    let rest = has_run (drop (s.count + 1) lines) s.next after (AreBuilt-drop lines (s.count + 1) built) in
+    let whole : Runs (started C) (take s.count lines ++ s.line ∷ drop (s.count + 1) lines) rest.0 (s.text ++ (s.answer ++ rest.1)) =
+    runs-append (take s.count lines) (s.line ∷ drop (s.count + 1) lines) (started C) s.at rest.0 s.text (s.answer ++ rest.1) s.run
+    (s.next, s.answer, rest.1, s.answers, rest.2, refl) in
+    let le : s.part ≤ length s.answer = omega (arith, s.proper) in (
+      s.text ++ (s.answer ++ rest.1),
+      length s.text + s.part,
+      (rest.0, subst (λ (l : List Line). Runs (started C) l rest.0 (s.text ++ (s.answer ++ rest.1))) (around lines s.count s.line s.is_next) whole),
+      subst (Appends a b) (sym (take_into s.text s.answer rest.1 s.part le)) s.added,
+    )
+
+-- every script has an output
+pub some_output : (C : PairColouring) (lines : List Line) → IsHistory (started C) → AreBuilt lines → (t : List ℕ) × ScriptOutput C lines t
+some_output C lines i built = let run = has_run lines (started C) i built in (run.1, (run.0, run.2))
+
+-- before the first line nothing of it was written
+pub nothing_of_output : (C : PairColouring) (lines : List Line) (a : Option (List ℕ)) → IsHistory (started C) → AreBuilt lines → AddsScriptFront C lines a a
+nothing_of_output C lines a i built = let t = some_output C lines i built in (t.0, 0, t.1, Appends-nil a)
+
+-- a session over a bench that was started with C
+pub front_after : (result : Result (Unit {0}) SessionFault) (C : PairColouring) (lines : List Line) (h bench : History) (a b : Option (List ℕ)) → IsHistory (started C) → AreBuilt lines
+    → h ≡ started C → IfErr result (λ fault. Stopped fault h lines bench a b) → OnErr result (AddsScriptFront C lines a b)
+front_after (Ok done) C lines h bench a b i built e s = tt
+front_after (Err fault) C lines h bench a b i built e s = front_of_output fault C lines bench a b i built (subst (λ (k : History). Stopped fault k lines bench a b) e s)

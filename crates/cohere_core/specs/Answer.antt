@@ -1,0 +1,117 @@
+-- The answers of a script, line by line.
+use Rattle.std.specs.Prelude.{◌≡◌, ◌⊎◌, ◌<◌, ◌++◌, ℕ, List, [], ◌∷◌, length, take, slice_get, Option, Some, None, MatchOption, codes}
+use Rattle.std.specs.Io.KnownBytes.{Appends}
+use Rattle.pair_colours.specs.Colouring.{PairColouring}
+use Rattle.pair_colours.specs.Closure.{IsClosureOf}
+use Rattle.pair_colours.specs.Naming.{rank_of}
+use Rattle.recolour_bench.specs.History.{History, present}
+use Rattle.recolour_bench.specs.declared.edits.Edit.TheVariants as edits
+use Rattle.recolour_bench.specs.declared.edits.EditFault.{EditFault}
+use Rattle.recolour_bench.specs.declared.edits.EditFault.TheVariants as faults
+use Rattle.recolour_bench.specs.Steps as steps
+use Rattle.report_text.specs.EditLines.{ok_text, refused_text_of}
+use Rattle.report_text.specs.Matrices.{show_text, raw_text}
+use Rattle.report_text.specs.Classes.{classes_text_of}
+use Rattle.report_text.specs.Constants.{constants_text_of}
+use Rattle.report_text.specs.Tests.{tests_text_of}
+use Rattle.report_text.specs.Arrays.{array_text_of}
+use Rattle.scheme_tests.specs.declared.properties.SchemeTests.{SchemeTests}
+use Rattle.scheme_tests.specs.Law.{AreAnswers}
+use Rattle.drg_arrays.specs.declared.answer.ArrayAnswer.{ArrayAnswer}
+use Rattle.drg_arrays.specs.Graph.{IsGraphSet}
+use Rattle.drg_arrays.specs.Answer.{IsArrayAnswer}
+use Rattle.script_text.specs.declared.acts.Act.{Act}
+use Rattle.script_text.specs.declared.acts.Act.TheVariants.{Set, Both, Fix, Join, Adopt, Undo, Redo, Show, Raw, Classes, Constants, Tests, Array}
+use Rattle.script_text.specs.declared.acts.Line.{Line}
+use Rattle.cohere_core.specs.declared.answering.SessionFault.{SessionFault}
+use Rattle.cohere_core.specs.declared.answering.SessionFault.TheVariants.{SinkFailed, NoMemory}
+
+-- a refusal is answered by the name of its variant
+abbrev pub edit_word : EditFault → List ℕ
+edit_word faults.PointRange = codes "PointRange"
+edit_word faults.ColourRange = codes "ColourRange"
+edit_word faults.ColourAbsent = codes "ColourAbsent"
+edit_word faults.HistoryFull = codes "HistoryFull"
+edit_word faults.NothingToUndo = codes "NothingToUndo"
+edit_word faults.NothingToRedo = codes "NothingToRedo"
+edit_word faults.NoMemory = codes "NoMemory"
+
+-- it holds of the configuration of the history: the closure of the present colouring
+pub record OfConfiguration (h : History) (P : PairColouring → Type 0) : Type 0 where
+  pub configuration : PairColouring
+  pub closure : IsClosureOf configuration (present h)
+  pub holds : P configuration
+
+-- t is the answer of an edit, an undo or a redo that was accepted and led to h
+abbrev pub IsAccepted : History → List ℕ → Type 0
+IsAccepted h t = OfConfiguration h (λ K. t ≡ ok_text K.size (rank_of K))
+
+-- t answers an edit, an undo or a redo at h, which leads to next
+abbrev pub Moves : History → steps.Act → History → List ℕ → Type 0
+Moves h move next t =
+    (steps.Accepts h move next × IsAccepted next t)
+    ⊎ ((fault : EditFault) × (steps.refusal h move ≡ Some fault) × (next ≡ h) × (t ≡ refused_text_of (edit_word fault)))
+
+-- the edit, undo or redo that a line asks for
+abbrev pub move_of : Act → Option steps.Act
+move_of (Set x y colour) = Some (steps.edits (edits.Set x y colour))
+move_of (Both x y colour) = Some (steps.edits (edits.Both x y colour))
+move_of (Fix x) = Some (steps.edits (edits.Fix x))
+move_of (Join keep gone) = Some (steps.edits (edits.Join keep gone))
+move_of Adopt = Some (steps.edits edits.Adopt)
+move_of Undo = Some steps.undoes
+move_of Redo = Some steps.redoes
+move_of _ = None
+
+-- t judges the graph of a set of classes of K: its intersection array, or why it has none; or the set chooses no graph
+abbrev pub AnswersArray : PairColouring → List ℕ → List ℕ → Type 0
+AnswersArray K set t =
+    (¬ IsGraphSet K set × (t ≡ refused_text_of (codes "BadSet")))
+    ⊎ (IsGraphSet K set × ((answer : ArrayAnswer) × IsArrayAnswer K set answer × (t ≡ array_text_of answer)))
+
+-- t answers a query at h; all queries but `raw` speak of the configuration
+abbrev pub Tells : History → Act → List ℕ → Type 0
+Tells h Show t = OfConfiguration h (λ K. t ≡ show_text K)
+Tells h Raw t = t ≡ raw_text (present h)
+Tells h Classes t = OfConfiguration h (λ K. t ≡ classes_text_of K)
+Tells h Constants t = OfConfiguration h (λ K. t ≡ constants_text_of K)
+Tells h Tests t = OfConfiguration h (λ K. (tests : SchemeTests) × AreAnswers K tests × (t ≡ tests_text_of tests))
+Tells h (Array set) t = OfConfiguration h (λ K. AnswersArray K set t)
+Tells h _ t = ⊥
+
+-- t answers the act at h, which leads to next; a query changes nothing
+abbrev pub Answers : History → Act → History → List ℕ → Type 0
+Answers h act next t = MatchOption (move_of act) ((next ≡ h) × Tells h act t) (λ move. Moves h move next t)
+
+-- an act that was not answered for want of memory leaves the history as it was, or as the answered act would have
+abbrev pub IsHalfway : History → History → (List ℕ → Type 0) → Type 0
+IsHalfway old new answers = (new ≡ old) ⊎ ((t : List ℕ) × answers t)
+
+-- the lines lead from h to end, and t is their answers, one after the other
+abbrev pub Runs : History → List Line → History → List ℕ → Type 0
+Runs h [] end t = (end ≡ h) × (t ≡ [])
+Runs h (line ∷ lines) end t =
+    (next : History) × (first : List ℕ) × (rest : List ℕ) × Answers h line.act next first × Runs next lines end rest × (t ≡ first ++ rest)
+
+-- all the lines were answered, from h to end
+abbrev pub Answered : History → List Line → History → Option (List ℕ) → Option (List ℕ) → Type 0
+Answered h lines end old new = (t : List ℕ) × Runs h lines end t × Appends old new t
+
+-- The first count lines were answered, and a proper prefix of the answer of the next one was added.
+-- Where memory is wanting no byte of it was, and the bench stands before that line or after it; where the sink failed, after it.
+pub record Stopped (fault : SessionFault) (h : History) (lines : List Line) (bench : History) (old new : Option (List ℕ)) : Type 0 where
+  pub count : ℕ
+  pub at : History
+  pub text : List ℕ
+  pub run : Runs h (take count lines) at text
+  pub line : Line
+  pub is_next : slice_get lines count ≡ Some line
+  pub next : History
+  pub answer : List ℕ
+  pub answers : Answers at line.act next answer
+  pub part : ℕ
+  pub proper : part < length answer
+  pub added : Appends old new (text ++ take part answer)
+  pub whole : fault ≡ NoMemory → part ≡ 0
+  pub stands : (bench ≡ at) ⊎ (bench ≡ next)
+  pub carried_out : fault ≡ SinkFailed → bench ≡ next

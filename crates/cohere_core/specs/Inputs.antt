@@ -1,0 +1,44 @@
+-- Why a file was not read, and what is read before anything is written.
+use Rattle.std.specs.Prelude.{◌≡◌, ℕ, List, Option, IsSome, IfSome, ⊤}
+use Rattle.scheme_io.specs.Files.{Files}
+use Rattle.scheme_io.specs.declared.loading.LoadFault.{LoadFault}
+use Rattle.scheme_io.specs.declared.loading.LoadFault.TheVariants as loads
+use Rattle.relation_text.specs.declared.faults.RelationFault.{RelationFault}
+use Rattle.relation_text.specs.declared.faults.RelationFault.TheVariants.{Text}
+use Rattle.relation_text.specs.declared.faults.RelationFault.TheVariants as readings
+use Rattle.cohere_core.specs.declared.bad_files.FileFault.{FileFault}
+use Rattle.cohere_core.specs.declared.bad_files.FileFault.TheVariants.{Missing, TooLong, Relation}
+use Rattle.cohere_core.specs.declared.bad_files.FileRole.{FileRole}
+use Rattle.cohere_core.specs.declared.inputs.Unread.{Unread}
+use Rattle.cohere_core.specs.declared.inputs.Unread.TheVariants.{Bad, StoreFailed, NoMemory}
+use Rattle.pair_colours.specs.Colouring.{PairColouring}
+use Rattle.script_text.specs.declared.acts.Line.{Line}
+use Rattle.cohere_core.specs.Task.{Task, Run}
+use Rattle.cohere_core.specs.Bad.{IsRelationFile, IsBuiltScript, IsReached, IsFault}
+
+-- what a fault of loading says of the file
+abbrev pub unread_of : LoadFault → Unread
+unread_of loads.NoFile = Bad Missing
+unread_of loads.Failed = StoreFailed
+unread_of (loads.TooLong taken) = Bad TooLong
+unread_of loads.NoMemory = NoMemory
+
+-- what a fault of reading says of a relation
+abbrev pub unread_by : RelationFault → Unread
+unread_by (Text what at) = Bad (Relation what at)
+unread_by readings.NoMemory = NoMemory
+
+-- why a file was not read: it is bad for a reason of these, or the count of faults rose, or memory is wanting
+abbrev pub IsCause : Option Files → (Files → FileFault → Type 0) → Unread → Type 0 → Type 0
+IsCause files faults (Bad fault) rose = IfSome files (λ files. faults files fault) × (fault ≡ Missing → IsSome files)
+IsCause files faults StoreFailed rose = rose
+IsCause files faults NoMemory rose = ⊤
+
+-- why a run stops at this file of the task
+pub record Halts (files : Option Files) (task : Task) (role : FileRole) (why : Unread) (rose : Type 0) : Type 0 where
+  pub reached : IfSome files (λ files. IsReached files task role)
+  pub cause : IsCause files (λ files. IsFault files task role) why rose
+
+-- the files of the task are this relation and a script of these lines
+abbrev pub AreInputs : Files → Task → PairColouring → List Line → Type 0
+AreInputs files (Run relation script line) C lines = IsRelationFile files relation line C × IsBuiltScript files script lines

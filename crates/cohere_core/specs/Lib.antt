@@ -1,0 +1,13 @@
+pub mod Code
+pub mod Task
+pub mod Form
+pub mod Lines
+pub mod Said
+pub mod Acts
+pub mod Bad
+pub mod Inputs
+pub mod Answer
+pub mod Move
+pub mod Output
+pub mod Run
+pub mod Halt

@@ -1,0 +1,74 @@
+// The answers of a script, line by line.
+ghost use Rattle.std.specs.Prelude.{◌≤◌, OnOk, OnErr, IfErr, IsErrOf};
+ghost use Rattle.scheme_io.specs.Count.{Rose};
+ghost use Rattle.recolour_bench.specs.History.{IsRawColouring};
+ghost use Rattle.cohere_core.specs.Acts.{AreBuilt};
+ghost use Rattle.cohere_core.specs.Answer.{Answered, Stopped};
+ghost use Rattle.cohere_core.specs.Output.{AddsScript, AddsScriptFront};
+
+use crate::answers::answer;
+use pair_colours::{Colouring, NoMemory};
+use recolour_bench::Bench;
+use scheme_io::{Sink, SinkFault, put_all};
+use script_text::Line;
+use std::alloc::Global;
+
+/// Why the answers of a script were not written whole.
+#[derive(Clone, Copy, Debug, PartialEq, Eq)]
+pub enum SessionFault {
+    /// The sink failed.
+    SinkFailed,
+    /// There is not enough memory.
+    NoMemory,
+}
+
+/// Answers the lines in order, each answer made whole before its first byte is written.
+///
+/// A line that is refused is answered by the name of the refusal, and changes nothing. After a
+/// fault the bench stands before the line that was not answered, or after it; what was written is
+/// the answers of the lines before it, and where the sink failed a front of its answer.
+pub fn session<O: Sink>(
+    alloc: Global,
+    bench: &mut Bench,
+    lines: &[Line],
+    out: &mut O,
+) -> Result<(), SessionFault>
+    requires { AreBuilt lines.now }
+    ensures answered { OnOk result (Answered bench.old lines.now bench.new (O.written out.old) (O.written out.new)) }
+    ensures stopped { IfErr result (λ fault. Stopped fault bench.old lines.now bench.new (O.written out.old) (O.written out.new)) }
+    ensures failed { IsErrOf result SessionFault.SinkFailed → Rose (O.faults out.old) (O.faults out.new) }
+    ensures later { O.faults out.old ≤ O.faults out.new }
+{
+    let _start = bench.position();
+    for line in lines {
+        let text = match answer(alloc, bench, &line.act) {
+            Ok(text) => text,
+            Err(NoMemory) => return Err(SessionFault::NoMemory),
+        };
+        match put_all(out, &text) {
+            Ok(()) => {}
+            Err(SinkFault) => return Err(SessionFault::SinkFailed),
+        }
+    }
+    Ok(())
+}
+
+/// Answers the lines over a relation.
+pub fn answer_script<O: Sink>(
+    alloc: Global,
+    relation: Colouring,
+    lines: &[Line],
+    out: &mut O,
+) -> Result<(), SessionFault>
+    requires raw { IsRawColouring relation }
+    requires built { AreBuilt lines.now }
+    ensures all { OnOk result (AddsScript relation lines.now (O.written out.old) (O.written out.new)) }
+    ensures front { OnErr result (AddsScriptFront relation lines.now (O.written out.old) (O.written out.new)) }
+    ensures failed { IsErrOf result SessionFault.SinkFailed → Rose (O.faults out.old) (O.faults out.new) }
+{
+    let mut bench = match Bench::new(alloc, relation) {
+        Ok(bench) => bench,
+        Err(NoMemory) => return Err(SessionFault::NoMemory),
+    };
+    session(alloc, &mut bench, lines, out)
+}

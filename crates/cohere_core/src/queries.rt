@@ -1,0 +1,97 @@
+// The answers of the lines that change nothing.
+ghost use Rattle.std.specs.Prelude.{◌≡◌, true, IfOk, None};
+ghost use Rattle.pair_colours.specs.Closure.{IsClosureOf};
+ghost use Rattle.recolour_bench.specs.History.{present};
+ghost use Rattle.report_text.specs.Matrices.{show_text};
+ghost use Rattle.report_text.specs.Classes.{classes_text_of};
+ghost use Rattle.report_text.specs.Constants.{constants_text_of};
+ghost use Rattle.report_text.specs.Tests.{tests_text_of};
+ghost use Rattle.scheme_tests.specs.declared.properties.SchemeTests.{SchemeTests};
+ghost use Rattle.scheme_tests.specs.Law.{AreAnswers};
+ghost use Rattle.cohere_core.specs.Acts.{is_built};
+ghost use Rattle.cohere_core.specs.Answer.{AnswersArray, OfConfiguration, Tells, move_of};
+
+use drg_arrays::{ArrayFault, array};
+use pair_colours::{Colouring, NoMemory};
+use recolour_bench::Bench;
+use report_text::{
+    MatrixHead, array_text, classes_text, constants_text, matrix_text, refused_text, tests_text,
+};
+use scheme_tests::tests;
+use script_text::Act;
+use std::alloc::Global;
+use struct_consts::Constants;
+
+// The structure constants of the closure.
+fn constants_of(alloc: Global, bench: &Bench) -> Result<Constants, NoMemory>
+    ensures { IfOk result (λ constants. IsClosureOf constants (present bench.now)) }
+{
+    Constants::of(alloc, bench.closure())
+}
+
+// The matrix of the closure.
+fn shown(alloc: Global, bench: &Bench) -> Result<Vec<u8>, NoMemory>
+    ensures { IfOk result (λ text. OfConfiguration bench.now (λ K. text.items ≡ show_text K)) }
+{
+    matrix_text(alloc, MatrixHead::Show, bench.closure())
+}
+
+// The classes of the closure.
+fn listed_classes(alloc: Global, bench: &Bench) -> Result<Vec<u8>, NoMemory>
+    ensures { IfOk result (λ text. OfConfiguration bench.now (λ K. text.items ≡ classes_text_of K)) }
+{
+    let constants = constants_of(alloc, bench)?;
+    classes_text(alloc, &constants)
+}
+
+// The structure constants of the closure that are not 0.
+fn listed_constants(alloc: Global, bench: &Bench) -> Result<Vec<u8>, NoMemory>
+    ensures { IfOk result (λ text. OfConfiguration bench.now (λ K. text.items ≡ constants_text_of K)) }
+{
+    let constants = constants_of(alloc, bench)?;
+    constants_text(alloc, &constants)
+}
+
+// The five tests of the closure.
+fn listed_tests(alloc: Global, bench: &Bench) -> Result<Vec<u8>, NoMemory>
+    ensures { IfOk result (λ text. OfConfiguration bench.now (λ K. (t : SchemeTests) × AreAnswers K t × (text.items ≡ tests_text_of t))) }
+{
+    let constants = constants_of(alloc, bench)?;
+    let answers = tests(alloc, &constants)?;
+    tests_text(alloc, &answers)
+}
+
+// The intersection array of the graph of a set of classes, or why it has none.
+fn judged_array(alloc: Global, closure: &Colouring, set: &[u32]) -> Result<Vec<u8>, NoMemory>
+    ensures { IfOk result (λ text. AnswersArray closure.now set.now text.items) }
+{
+    match array(alloc, closure, set) {
+        Ok(answer) => array_text(alloc, &answer),
+        Err(ArrayFault::BadSet) => refused_text(alloc, "BadSet"),
+        Err(ArrayFault::NoMemory) => Err(NoMemory),
+    }
+}
+
+// The intersection array over the closure.
+fn told_array(alloc: Global, bench: &Bench, set: &[u32]) -> Result<Vec<u8>, NoMemory>
+    ensures { IfOk result (λ text. OfConfiguration bench.now (λ K. AnswersArray K set.now text.items)) }
+{
+    judged_array(alloc, bench.closure(), set)
+}
+
+/// Answers a query.
+pub fn told(alloc: Global, bench: &Bench, act: &Act) -> Result<Vec<u8>, NoMemory>
+    requires built { is_built act.now ≡ true }
+    requires query { move_of act.now ≡ None }
+    ensures { IfOk result (λ text. Tells bench.now act.now text.items) }
+{
+    match act {
+        Act::Show => shown(alloc, bench),
+        Act::Raw => matrix_text(alloc, MatrixHead::Raw, bench.present()),
+        Act::Classes => listed_classes(alloc, bench),
+        Act::Constants => listed_constants(alloc, bench),
+        Act::Tests => listed_tests(alloc, bench),
+        Act::Array { set } => told_array(alloc, bench, set.as_slice()),
+        _ => unreachable!(),
+    }
+}

@@ -1,0 +1,12 @@
+pub mod Walks
+pub mod Searches
+pub mod Counting
+pub mod FirstPlaces
+pub mod Members
+pub mod Marks
+pub mod TableLemmas
+pub mod Regular
+pub mod OneAnswer
+pub mod SomeDistances
+pub mod SomeTables
+pub mod SomeAnswer

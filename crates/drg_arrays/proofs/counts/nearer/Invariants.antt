@@ -1,0 +1,11 @@
+use Rattle.std.proofs.Common.{◌≡◌, ◌≤◌}
+use Rattle.std.specs.List.{count_by}
+use Rattle.pair_colours.specs.Colouring.{points}
+use Rattle.drg_arrays.proofs.Counting.{is_nearer}
+use Rattle.drg_arrays.proofs.counts.nearer.Given as goal
+
+abbrev pub invariant-loop-w : goal.invariant-loop-w
+invariant-loop-w l = record {
+  counted : l.count ≡ count_by (is_nearer l.graph l.distances l.u l.v) (points l.w);
+  few : l.count ≤ l.w;
+}

@@ -1,0 +1,11 @@
+-- What holds of the answers for every colouring.
+use Rattle.std.specs.Prelude.{◌⊎◌, ℕ, List}
+use Rattle.pair_colours.specs.Colouring.{PairColouring, FitsColouring}
+use Rattle.drg_arrays.specs.declared.answer.ArrayAnswer.{ArrayAnswer}
+use Rattle.drg_arrays.specs.Graph.{IsGraphSet}
+use Rattle.drg_arrays.specs.Answer.{IsArrayAnswer}
+
+-- a set of colours is that of a graph or not, and where it is, there is an answer
+abbrev pub AnswerExists : Type 0
+AnswerExists = (C : PairColouring) → FitsColouring C → (S : List ℕ)
+    → (¬ IsGraphSet C S) ⊎ (IsGraphSet C S × ((answer : ArrayAnswer) × IsArrayAnswer C S answer))

@@ -1,0 +1,79 @@
+// How many neighbours of a point are nearer to another point, and how many farther.
+
+ghost use Rattle.std.specs.Prelude.{◌≡◌, ◌+◌, ◌*◌, ◌<◌, ◌≤◌, ℕ, IfOk, All, length};
+ghost use Rattle.drg_arrays.specs.Tables.{AreCounts, nearer_count, farther_count};
+
+use crate::graph::EdgeTable;
+use pair_colours::NoMemory;
+use std::alloc::Global;
+
+// The numbers c and b of all pairs, row by row.
+#[derive(Drop)]
+pub(crate) struct Counts {
+    pub(crate) nearer: Vec<u32>,
+    pub(crate) farther: Vec<u32>,
+}
+
+// How many neighbours of v are one step nearer to u than v is. The comparison stands before the
+// branch, here and below, so that the compiled loop has no branch.
+fn nearer(graph: &EdgeTable, distances: &[u32], u: usize, v: usize) -> u32
+    requires row { u < graph.now.size }
+    requires column { v < graph.now.size }
+    requires len { length distances.now ≡ graph.now.size * graph.now.size }
+    requires small { All (λ distance. distance < graph.now.size) distances.now }
+    ensures { result ≡ nearer_count graph.now distances.now u v }
+{
+    let row = u * graph.size();
+    let own = distances[row + v];
+    let mut count = 0;
+    for w in 0..graph.size() {
+        let is_nearer = distances[row + w] + 1 == own;
+        if graph.has_edge(v, w) && is_nearer {
+            count += 1;
+        }
+    }
+    count
+}
+
+// How many neighbours of v are one step farther from u than v is.
+fn farther(graph: &EdgeTable, distances: &[u32], u: usize, v: usize) -> u32
+    requires row { u < graph.now.size }
+    requires column { v < graph.now.size }
+    requires len { length distances.now ≡ graph.now.size * graph.now.size }
+    requires small { All (λ distance. distance < graph.now.size) distances.now }
+    ensures { result ≡ farther_count graph.now distances.now u v }
+{
+    let row = u * graph.size();
+    let own = distances[row + v];
+    let mut count = 0;
+    for w in 0..graph.size() {
+        let is_farther = distances[row + w] == own + 1;
+        if graph.has_edge(v, w) && is_farther {
+            count += 1;
+        }
+    }
+    count
+}
+
+// Both numbers of each pair.
+pub(crate) fn counts_of(
+    alloc: Global,
+    graph: &EdgeTable,
+    distances: &[u32],
+) -> Result<Counts, NoMemory>
+    requires len { length distances.now ≡ graph.now.size * graph.now.size }
+    requires small { All (λ distance. distance < graph.now.size) distances.now }
+    ensures { IfOk result (λ counts.
+        AreCounts graph.now distances.now counts.nearer.items counts.farther.items) }
+{
+    let mut counts = Counts {
+        nearer: Vec::new(alloc),
+        farther: Vec::new(alloc),
+    };
+    for place in 0..distances.len() {
+        let (u, v) = (place / graph.size(), place % graph.size());
+        counts.nearer.push(nearer(graph, distances, u, v))?;
+        counts.farther.push(farther(graph, distances, u, v))?;
+    }
+    Ok(counts)
+}

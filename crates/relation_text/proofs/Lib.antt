@@ -1,0 +1,15 @@
+pub mod BitLemmas
+pub mod TestLemmas
+pub mod SizeLemmas
+pub mod GraphBodies
+pub mod OrderLemmas
+pub mod SameColours
+pub mod GraphReadings
+pub mod MatrixRows
+pub mod MatrixReadings
+pub mod Readings
+pub mod BitLoops
+pub mod RowLoops
+pub mod ColourDigits
+pub mod ChosenLines
+pub mod MatrixLoops

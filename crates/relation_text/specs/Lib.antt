@@ -1,0 +1,7 @@
+pub mod Bits
+pub mod Orders
+pub mod Lines
+pub mod Relation
+pub mod Faults
+pub mod Law
+pub mod Views

@@ -1,0 +1,68 @@
+//! What is wrong with a relation text.
+
+ghost use Rattle.std.specs.Prelude.{◌≡◌, ◌^◌, ◌<◌};
+ghost use Rattle.relation_text.specs.declared.faults.RelationFault.TheVariants as faults;
+
+use pair_colours::NoMemory;
+use thiserror::Error;
+
+// A fault and its byte place.
+pub(crate) type Fault = (RelationWord, usize);
+
+/// A fault of a relation text.
+#[derive(Clone, Copy, Debug, PartialEq, Eq)]
+pub enum RelationWord {
+    /// The text has fewer lines than that.
+    NoLine,
+    /// A byte that cannot stand in a graph line or in a row.
+    BadByte,
+    /// A size below 63 in the form of four bytes.
+    SizeForm,
+    /// There are no points.
+    NoPoints,
+    /// There are more than 128 points.
+    TooManyPoints,
+    /// The line is not as long as its size asks for.
+    WrongLength,
+    /// A bit that only fills up the last byte is not 0.
+    PadBits,
+    /// What follows `matrix ` is not one number.
+    MatrixHead,
+    /// A number has a leading zero.
+    MatrixNumber,
+    /// There are too few or too many rows or numbers.
+    MatrixCount,
+    /// A colour is above 65,535.
+    ColourTooLarge,
+}
+
+/// Why a relation was not read.
+#[derive(Clone, Copy, Debug, PartialEq, Eq, Error)]
+pub enum RelationFault {
+    /// The text is no relation, for the reason `what` at the byte place `at`, counted from 0 in the
+    /// whole text.
+    #[error("the text is no relation")]
+    Text { what: RelationWord, at: u32 },
+    /// There is not enough memory.
+    #[error("out of memory")]
+    NoMemory,
+}
+
+impl From<NoMemory> for RelationFault {
+    ghost from_gives = { λ _ fault. fault ≡ faults.NoMemory };
+
+    fn from(_error: NoMemory) -> RelationFault {
+        RelationFault::NoMemory
+    }
+}
+
+// The fault as it is answered.
+pub(crate) fn text_fault(fault: Fault) -> RelationFault
+    requires { fault.1 < 2 ^ 32 }
+    ensures { result ≡ faults.Text fault.0 fault.1 }
+{
+    RelationFault::Text {
+        what: fault.0,
+        at: fault.1 as u32,
+    }
+}

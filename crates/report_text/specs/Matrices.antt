@@ -1,0 +1,33 @@
+-- Answers that show a matrix.
+use Rattle.std.specs.Prelude.{ℕ, List, ◌++◌, map, codes, decimal}
+use Rattle.std.specs.List.{flat_map}
+use Rattle.pair_colours.specs.Colouring.{PairColouring, colour_at, points}
+use Rattle.pair_colours.specs.Naming.{rank_of}
+use Rattle.report_text.specs.declared.matrices.MatrixHead.{MatrixHead}
+use Rattle.report_text.specs.declared.matrices.MatrixHead.TheVariants.{Show, Raw}
+use Rattle.report_text.specs.Joined.{spaced}
+
+-- the colours of row x
+abbrev pub matrix_row : PairColouring → ℕ → List ℕ
+matrix_row K x = spaced (map (λ y. colour_at K x y) (points K.size))
+
+-- the rows of a matrix, a line each
+abbrev pub matrix_rows : PairColouring → List ℕ
+matrix_rows K = flat_map (λ x. matrix_row K x ++ codes "\n") (points K.size)
+
+-- the head line: which matrix it is, how many points it has and how many colours are in use
+abbrev pub head_line : MatrixHead → ℕ → ℕ → List ℕ
+head_line Show points rank = codes "show points " ++ decimal points ++ codes " rank " ++ decimal rank ++ codes "\n"
+head_line Raw points colours = codes "raw points " ++ decimal points ++ codes " colours " ++ decimal colours ++ codes "\n"
+
+-- a matrix under its head line
+abbrev pub matrix_text_of : MatrixHead → PairColouring → List ℕ
+matrix_text_of head K = head_line head K.size (rank_of K) ++ matrix_rows K
+
+-- the closure
+abbrev pub show_text : PairColouring → List ℕ
+show_text K = matrix_text_of Show K
+
+-- the present colouring with its raw colours
+abbrev pub raw_text : PairColouring → List ℕ
+raw_text C = matrix_text_of Raw C

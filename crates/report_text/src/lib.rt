@@ -1,0 +1,33 @@
+//! The texts of the answers: each call makes one answer whole, as bytes.
+//!
+//! * `edit_lines`: what an accepted edit and a refused line answer.
+//! * `matrices`: the answers that show a matrix.
+//! * `classes`, `constants`: the answers that list the classes and the structure constants.
+//! * `test_lines`: the answer of the five tests.
+//! * `arrays`: the answers on distance-regular graphs.
+//! * `graphs`: the answers that show a graph of classes.
+//! * `growing_text`: `Text`, the bytes that every answer is put together in.
+//!
+//! Each text stands in `specs/` as a function of the mathematical values that the call is given;
+//! docs/FORMATS.md has them in words. Every line ends with one LF byte, and single spaces part the
+//! words of a line.
+#![tactic(auto)]
+
+mod arrays;
+mod classes;
+mod constants;
+mod edit_lines;
+mod graphs;
+mod growing_text;
+mod matrices;
+mod test_lines;
+#[cfg(test)]
+mod tests;
+
+pub use arrays::array_text;
+pub use classes::classes_text;
+pub use constants::constants_text;
+pub use edit_lines::{edit_text, refused_text};
+pub use graphs::{GraphNote, graph_text};
+pub use matrices::{MatrixHead, matrix_text};
+pub use test_lines::tests_text;

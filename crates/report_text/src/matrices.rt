@@ -1,0 +1,73 @@
+//! Answers that show a matrix of colours.
+
+ghost use Rattle.std.specs.Prelude.{◌≡◌, ◌++◌, ◌<◌, IfOk, OnOk};
+ghost use Rattle.report_text.specs.Matrices.{head_line, matrix_row, matrix_rows, matrix_text_of};
+
+use crate::growing_text::Text;
+use pair_colours::{Colouring, NoMemory};
+use std::alloc::Global;
+
+/// Which matrix an answer shows, told by the first word of its head line.
+#[derive(Clone, Copy, Debug, PartialEq, Eq)]
+pub enum MatrixHead {
+    /// The closure.
+    Show,
+    /// The present colouring, with the raw colours.
+    Raw,
+}
+
+/// The answer that shows a matrix: its head line, with the number of points and the number of
+/// colours in use, and then a line for each row of colours.
+pub fn matrix_text(alloc: Global, head: MatrixHead, matrix: &Colouring) -> Result<Vec<u8>, NoMemory>
+    ensures { IfOk result (λ text. text.items ≡ matrix_text_of head matrix.now) }
+{
+    let rank = matrix.rank(alloc)?;
+    let mut text = Text::with_room(alloc, room_for(matrix))?;
+    put_head(&mut text, head, matrix.size(), rank)?;
+    put_rows(&mut text, matrix)?;
+    Ok(text.into_bytes())
+}
+
+// Memory enough for the text of a matrix whose colours have at most five digits.
+fn room_for(matrix: &Colouring) -> usize {
+    let size = matrix.size() as usize;
+    64 + 6 * size * size
+}
+
+fn put_head(text: &mut Text, head: MatrixHead, points: u32, colours: u32) -> Result<(), NoMemory>
+    ensures { OnOk result (text.new ≡ text.old ++ head_line head points colours) }
+{
+    match head {
+        MatrixHead::Show => {
+            text.put_field(b"show points ", points)?;
+            text.put_field(b" rank ", colours)?;
+        }
+        MatrixHead::Raw => {
+            text.put_field(b"raw points ", points)?;
+            text.put_field(b" colours ", colours)?;
+        }
+    }
+    text.put(b"\n")
+}
+
+// Puts the rows of a matrix at the end, a line each.
+fn put_rows(text: &mut Text, matrix: &Colouring) -> Result<(), NoMemory>
+    ensures { OnOk result (text.new ≡ text.old ++ matrix_rows matrix.now) }
+{
+    for x in 0..matrix.size() {
+        put_row(text, matrix, x)?;
+        text.put(b"\n")?;
+    }
+    Ok(())
+}
+
+// Puts row x of a matrix at the end, without its line end.
+fn put_row(text: &mut Text, matrix: &Colouring, x: u32) -> Result<(), NoMemory>
+    requires { x < matrix.now.size }
+    ensures { OnOk result (text.new ≡ text.old ++ matrix_row matrix.now x) }
+{
+    for y in 0..matrix.size() {
+        text.put_next(b' ', y as usize, matrix.get(x, y))?;
+    }
+    Ok(())
+}

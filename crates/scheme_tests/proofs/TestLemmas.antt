@@ -1,0 +1,76 @@
+-- What the look-ups of the tests say.
+use Rattle.std.proofs.Common.{◌≡◌, ℕ, ◌<◌, ◌≤◌, List, length, get_or, ⊎_elim, sym, subst, ◌∙◌, arith}
+use Rattle.std.proofs.lemmas.Bool.{cases_lt}
+use Rattle.pair_colours.specs.Colouring.{PairColouring, colour_at}
+use Rattle.pair_colours.specs.Naming.{rank_of}
+use Rattle.pair_colours.specs.IntersectionNumber.{pair_of_class, intersection_number}
+use Rattle.struct_consts.specs.Entry.{Entry}
+use Rattle.struct_consts.specs.Row.{IsRowAt}
+use Rattle.struct_consts.specs.ClassData.{IsConfiguration, row_count, valency_of}
+use Rattle.struct_consts.proofs.Configurations.{pair_of_class-holds, class_is_colour, colour_below, colour_at-below}
+use Rattle.struct_consts.proofs.Constancy.{valency-fibre}
+use Rattle.scheme_tests.specs.SchemeTests.{Homogeneous, Symmetric, Commutative, CommutesAt, Thin}
+
+-- the numbers of one class are the same with i and j exchanged, if they are so at each entry of its row
+pub commutes_from_entries : (K : PairColouring) (k : ℕ) (entries : List Entry) → IsRowAt K (pair_of_class K k).0 (pair_of_class K k).1 entries
+    → ((a : ℕ) (d : Entry) → a < length entries → intersection_number K (get_or entries a d).right (get_or entries a d).left k ≡ (get_or entries a d).count)
+    → CommutesAt K k
+commutes_from_entries K k entries r each = record {
+  swapped = λ i j _ _. ⊎_elim
+      (λ (m : 0 < intersection_number K i j k). sym (turned i j m))
+      (λ (m : intersection_number K i j k ≤ 0). ⊎_elim
+      (λ (n : 0 < intersection_number K j i k). turned j i n)
+      (λ (n : intersection_number K j i k ≤ 0). omega (arith, m, n))
+      (cases_lt 0 (intersection_number K j i k)))
+      (cases_lt 0 (intersection_number K i j k));
+}
+  where
+    turned : (i j : ℕ) → 0 < intersection_number K i j k → intersection_number K j i k ≡ intersection_number K i j k
+    turned i j m =
+        let a = r.complete i j m in
+        let e : Entry = a.1 in
+        let number = each a.0 e a.2 in
+        let counted = r.counts a.0 e a.2 in
+        let is : get_or entries a.0 e ≡ e = a.3 in
+        (λ t. intersection_number K (sym a.4.1 t) (sym a.4.0 t) k)
+        ∙ subst (λ (f : Entry). intersection_number K f.right f.left k ≡ f.count) is number
+        ∙ subst (λ (f : Entry). f.count ≡ intersection_number K f.left f.right k) is counted
+        ∙ (λ t. intersection_number K (a.4.0 t) (a.4.1 t) k)
+
+-- and where they are not so at an entry, they are not the same
+pub commutes_at_entry : (K : PairColouring) (k : ℕ) (e : Entry) → e.left < rank_of K → e.right < rank_of K → e.count ≡ intersection_number K e.left e.right k → CommutesAt K k
+    → intersection_number K e.right e.left k ≡ e.count
+commutes_at_entry K k e hl hr c h = sym (h.swapped e.left e.right hl hr) ∙ sym c
+
+pub commutative_from_each : (K : PairColouring) → IsConfiguration K → ((k : ℕ) → k < rank_of K → CommutesAt K k) → Commutative K
+commutative_from_each K g each = record { swapped = λ i j k ui uj uk. (each k (colour_below K g k uk)).swapped i j (colour_below K g i ui) (colour_below K g j uj) }
+
+pub commutes_at_each : (K : PairColouring) → IsConfiguration K → Commutative K → (k : ℕ) → k < rank_of K → CommutesAt K k
+commutes_at_each K g h k l = record { swapped = λ i j hi hj. h.swapped i j k (class_is_colour K g i hi) (class_is_colour K g j hj) (class_is_colour K g k l) }
+
+-- the turned pairs of a class that is its own transpose have its colour
+pub symmetric_from_each : (K : PairColouring) → IsConfiguration K → ((x y : ℕ) → x < K.size → y < K.size → colour_at K x y < rank_of K → colour_at K y x ≡ colour_at K x y) → Symmetric K
+symmetric_from_each K g each = record { turned = λ x y hx hy. sym (each x y hx hy (colour_at-below K g x y hx hy)) }
+
+pub transpose_in_symmetric : (K : PairColouring) → IsConfiguration K → Symmetric K → (k t : ℕ) → k < rank_of K
+    → ((x y : ℕ) → x < K.size → y < K.size → colour_at K x y ≡ k → colour_at K y x ≡ t) → t ≡ k
+transpose_in_symmetric K g h k t l every =
+    let p = pair_of_class-holds K g k l in
+    sym (every (pair_of_class K k).0 (pair_of_class K k).1 p.row p.column p.colour) ∙ sym (h.turned (pair_of_class K k).0 (pair_of_class K k).1 p.row p.column) ∙ p.colour
+
+-- in a homogeneous configuration each point sees a class as often as its valency says
+pub row_count-homogeneous : (K : PairColouring) → IsConfiguration K → Homogeneous K → (x k : ℕ) → x < K.size → k < rank_of K → row_count K x k ≡ valency_of K k
+row_count-homogeneous K g h x k hx l =
+    let p = pair_of_class-holds K g k l in
+    valency-fibre K g k x l hx (h.one_fibre x (pair_of_class K k).0 hx p.row)
+
+pub thin_from_valencies : (K : PairColouring) → IsConfiguration K → Homogeneous K → ((c : ℕ) → c < rank_of K → valency_of K c ≡ 1) → Thin K
+thin_from_valencies K g h one = record {
+  homogeneous = h;
+  one_point = λ x k hx u. let l = colour_below K g k u in row_count-homogeneous K g h x k hx l ∙ one k l;
+}
+
+pub valencies_in_thin : (K : PairColouring) → IsConfiguration K → Thin K → (c : ℕ) → c < rank_of K → valency_of K c ≡ 1
+valencies_in_thin K g t c l =
+    let p = pair_of_class-holds K g c l in
+    t.one_point (pair_of_class K c).0 c p.row (class_is_colour K g c l)

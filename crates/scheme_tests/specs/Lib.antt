@@ -1,0 +1,3 @@
+pub mod SchemeTests
+pub mod Steps
+pub mod Law

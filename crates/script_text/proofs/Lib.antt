@@ -1,0 +1,10 @@
+pub mod NumberForms
+pub mod KeywordTests
+pub mod KnownActs
+pub mod FailedWords
+pub mod ActWords
+pub mod LineWords
+pub mod LineLemmas
+pub mod ScriptLines
+pub mod WholeScript
+pub mod ScriptLaw

@@ -1,0 +1,5 @@
+pub mod Keyword
+pub mod Grammar
+pub mod LineFaults
+pub mod Script
+pub mod Answers

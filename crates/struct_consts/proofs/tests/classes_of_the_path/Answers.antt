@@ -1,0 +1,12 @@
+use Rattle.std.proofs.Common.{◌≡◌, sym, subst}
+use Rattle.pair_colours.specs.Colouring.{PairColouring}
+use Rattle.pair_colours.specs.Closure.{Coherent}
+use Rattle.pair_colours.specs.Naming.{named_of}
+use Rattle.struct_consts.proofs.TestColourings.{path_closure-coherent, path_closure-named}
+use Rattle.struct_consts.proofs.tests.classes_of_the_path.Goals as goal
+
+pub of-requires-clause-coherent : goal.of-requires-clause-coherent
+of-requires-clause-coherent g c = subst Coherent (sym c.in_ok-c.ensures) path_closure-coherent
+
+pub of-requires-clause-named : goal.of-requires-clause-named
+of-requires-clause-named g c = subst (λ (A : PairColouring). named_of A ≡ A) (sym c.in_ok-c.ensures) path_closure-named

@@ -1,0 +1,12 @@
+use Rattle.std.proofs.Common.{◌≡◌, sym, subst}
+use Rattle.pair_colours.specs.Colouring.{PairColouring}
+use Rattle.pair_colours.specs.Closure.{Coherent}
+use Rattle.pair_colours.specs.Naming.{named_of}
+use Rattle.struct_consts.proofs.TestColourings.{five_cycle-coherent, five_cycle-named}
+use Rattle.struct_consts.proofs.tests.constants_of_the_five_cycle.Goals as goal
+
+pub of-requires-clause-coherent : goal.of-requires-clause-coherent
+of-requires-clause-coherent g c = subst Coherent (sym c.in_ok-c.ensures) five_cycle-coherent
+
+pub of-requires-clause-named : goal.of-requires-clause-named
+of-requires-clause-named g c = subst (λ (A : PairColouring). named_of A ≡ A) (sym c.in_ok-c.ensures) five_cycle-named

@@ -1,0 +1,26 @@
+-- What holds of the constants of every coherent configuration (Higman, Coherent configurations I, 1975, section 2).
+use Rattle.std.specs.Prelude.{◌≡◌, ℕ, ◌*◌, ◌<◌, sum_by}
+use Rattle.pair_colours.specs.Colouring.{PairColouring, colour_at, points, triangles}
+use Rattle.pair_colours.specs.Naming.{rank_of}
+use Rattle.pair_colours.specs.IntersectionNumber.{intersection_number}
+use Rattle.struct_consts.specs.ClassData.{IsConfiguration, row_count, valency_of, class_size, fibres_of, fibre_size}
+
+-- the triangle numbers of every pair are the intersection numbers of its class
+abbrev pub TrianglesAreConstants : Type 0
+TrianglesAreConstants = (K : PairColouring) → IsConfiguration K → (x y i j : ℕ) → x < K.size → y < K.size
+    → triangles K x y i j ≡ intersection_number K i j (colour_at K x y)
+
+-- at every point of its fibre a class has its valency
+abbrev pub RowsAreValencies : Type 0
+RowsAreValencies = (K : PairColouring) → IsConfiguration K → (k x : ℕ) → k < rank_of K → x < K.size
+    → colour_at K x x ≡ (fibres_of K k).0 → row_count K x k ≡ valency_of K k
+
+-- the intersection numbers of a class, over all i and j, count each point once
+abbrev pub ConstantsSumToSize : Type 0
+ConstantsSumToSize = (K : PairColouring) → IsConfiguration K → (k : ℕ) → k < rank_of K
+    → sum_by (λ i. sum_by (λ j. intersection_number K i j k) (points (rank_of K))) (points (rank_of K)) ≡ K.size
+
+-- a class has as many pairs as its fibre has points, times its valency
+abbrev pub SizeIsFibreTimesValency : Type 0
+SizeIsFibreTimesValency = (K : PairColouring) → IsConfiguration K → (k : ℕ) → k < rank_of K
+    → class_size K k ≡ fibre_size K (fibres_of K k).0 * valency_of K k

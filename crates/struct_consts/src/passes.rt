@@ -1,0 +1,48 @@
+//! What one pass over all pairs tells of every class.
+
+ghost use Rattle.std.specs.Prelude.{IfOk};
+ghost use Rattle.struct_consts.specs.ClassData.{HasColoursBelow};
+ghost use Rattle.struct_consts.specs.Kept.{HasFirstPairs, HasSizes};
+
+use pair_colours::{Colouring, NoMemory};
+use std::alloc::Global;
+
+// The first pair of each class in the naming walk.
+pub(crate) fn first_pairs(
+    alloc: Global,
+    k: &Colouring,
+    rank: u32,
+) -> Result<Vec<Option<(u32, u32)>>, NoMemory>
+    requires { HasColoursBelow k.now rank }
+    ensures { IfOk result (λ pairs. HasFirstPairs k.now rank pairs.items) }
+{
+    let mut pairs = vec![in alloc; None; rank as usize]?;
+    for x in 0..k.size() {
+        let colour = k.get(x, x) as usize;
+        pairs[colour] = Some(pairs[colour].unwrap_or((x, x)));
+    }
+    for x in 0..k.size() {
+        for y in 0..k.size() {
+            if x != y {
+                let colour = k.get(x, y) as usize;
+                pairs[colour] = Some(pairs[colour].unwrap_or((x, y)));
+            }
+        }
+    }
+    Ok(pairs)
+}
+
+// How many pairs each class has.
+pub(crate) fn class_sizes(alloc: Global, k: &Colouring, rank: u32) -> Result<Vec<u32>, NoMemory>
+    requires { HasColoursBelow k.now rank }
+    ensures { IfOk result (λ sizes. HasSizes k.now rank sizes.items) }
+{
+    let mut sizes = vec![in alloc; 0; rank as usize]?;
+    for x in 0..k.size() {
+        for y in 0..k.size() {
+            let colour = k.get(x, y) as usize;
+            sizes[colour] += 1;
+        }
+    }
+    Ok(sizes)
+}

@@ -1,0 +1,79 @@
+-- The entries of the codes over all points are the triangle numbers.
+use Rattle.std.proofs.Common.{◌≡◌, ◌==◌, ◌&&◌, ℕ, ◌+◌, ◌*◌, ◌^◌, ◌<◌, ◌≤◌, Bool, List, get_or, count_by, Any, inl, inr, ⊎_elim, sym, ap, subst, ◌∙◌, arith}
+use Rattle.std.specs.List.Sorted.{IsPermutation}
+use Rattle.std.proofs.lemmas.Bool.{cases_lt, eqb-true, and_parts}
+use Rattle.std.proofs.lemmas.Bool.Decides.{Decides-eqb, Decides-and, Decides-like, same_from_decides}
+use Rattle.std.proofs.lemmas.Nat.{same_from_place}
+use Rattle.std.proofs.lemmas.List.FromFn.{get_or-range_with_len, length-range_with_len, get_or-map-range_with_len, length-map-range_with_len}
+use Rattle.std.proofs.lemmas.List.Sums.{sum_by_push, count_by-le-length}
+use Rattle.std.proofs.lemmas.List.Sorted.{IsPermutation-sym, sum_by-IsPermutation, All-permutation}
+use Rattle.pair_colours.specs.Colouring.{PairColouring, FitsColouring, colour_at, points, triangles}
+use Rattle.pair_colours.proofs.Counts.{found, count_by-map, count_by_points, points_more, unit_of}
+use Rattle.pair_colours.proofs.Places.{place_below}
+use Rattle.triangle_count.specs.declared.rows.Entry.{Entry}
+use Rattle.triangle_count.specs.Row.{Precedes, IsRowAt}
+use Rattle.triangle_count.specs.Runs.{code_of, side_code, side_codes, IsTally}
+
+-- where triangles of two colours stand, a point shows them
+pub triangle_point : (C : PairColouring) (x y i j : ℕ) → 0 < triangles C x y i j → (z : ℕ) × (z < C.size) × (colour_at C x z ≡ i) × (colour_at C z y ≡ j)
+triangle_point C x y i j h =
+    let k = found (λ z. (colour_at C x z == i) && (colour_at C z y == j)) (points C.size) h in
+    let l : k.0 < C.size = omega (arith, k.1, length-range_with_len 0 C.size) in
+    let at : get_or (points C.size) k.0 0 ≡ k.0 = omega (arith, get_or-range_with_len 0 C.size k.0 0 l) in
+    let both = and_parts (colour_at C x (get_or (points C.size) k.0 0) == i) (colour_at C (get_or (points C.size) k.0 0) y == j) (k.2 0) in
+    (k.0, l, ap (colour_at C x) (sym at) ∙ eqb-true _ i both.0, ap (λ z. colour_at C z y) (sym at) ∙ eqb-true _ j both.1)
+
+-- a colour of a colouring that the program keeps
+pub colour_small : (C : PairColouring) → FitsColouring C → (x y : ℕ) → x < C.size → y < C.size → colour_at C x y < 2 ^ 32
+colour_small C h x y hx hy = h.numbers (x * C.size + y) 0 (subst (λ n. x * C.size + y < n) (sym h.colouring.has_pairs) (place_below C.size x y hx hy))
+
+-- a step of a count over the points
+pub count_more : (p : ℕ → Bool) (z count new : ℕ) → count ≡ count_by p (points z) → new ≡ count + unit_of (p z) → new ≡ count_by p (points (z + 1))
+count_more p z count new h e = omega (arith, h, e, ap (count_by p) (points_more z), sum_by_push (λ w. unit_of (p w)) (points z) z)
+
+-- a row has no more entries than there are points
+pub count_short : (p : ℕ → Bool) (z : ℕ) → count_by p (points z) ≤ z
+count_short p z = omega (arith, count_by-le-length p (points z), length-range_with_len 0 z)
+
+-- the tally of all codes, in any order, is the row
+pub IsRowAt-from_tally : (C : PairColouring) (x y : ℕ) (codes : List ℕ) (entries : List Entry) → FitsColouring C → x < C.size → y < C.size
+    → IsPermutation (side_codes C x y) codes → IsTally codes entries → IsRowAt C x y entries
+IsRowAt-from_tally C x y codes entries fits hx hy p t = record {
+  rises = λ i j d a b. precedes (get_or entries i d) (get_or entries j d) (t.small j d b) (t.rises i j d a b);
+  nonzero = t.nonzero;
+  counts = λ k d l. t.counts k d l ∙ counted (get_or entries k d) (t.small k d l);
+  complete = λ i j h. all i j h;
+}
+  where
+    precedes : (e f : Entry) → f.right < 2 ^ 32 → code_of e < code_of f → Precedes e f
+    precedes e f small h = ⊎_elim
+        (λ (q : e.left < f.left). inl q)
+        (λ (q : f.left ≤ e.left). inr (let same : e.left ≡ f.left = omega arith in (same, omega arith)))
+        (cases_lt e.left f.left)
+
+    tests : (e : Entry) → e.right < 2 ^ 32 → (z : ℕ) → z < C.size → (side_code C x y z == code_of e) ≡ ((colour_at C x z == e.left) && (colour_at C z y == e.right))
+    tests e small z hz =
+        let low = colour_small C fits z y hz hy in
+        same_from_decides _ _ (Decides-eqb (side_code C x y z) (code_of e))
+        (Decides-like _
+        (λ b. (λ i. b.0 i * 2 ^ 32 + b.1 i))
+        (λ q. same_from_place (colour_at C x z) (colour_at C z y) e.left e.right (2 ^ 32) low small q)
+        (Decides-and _ _ (Decides-eqb (colour_at C x z) e.left) (Decides-eqb (colour_at C z y) e.right)))
+
+    counted : (e : Entry) → e.right < 2 ^ 32 → count_by (λ code. code == code_of e) codes ≡ triangles C x y e.left e.right
+    counted e small =
+        sum_by-IsPermutation (λ code. unit_of (code == code_of e)) (side_codes C x y) codes p
+        ∙ count_by-map (λ code. code == code_of e) (side_code C x y) (points C.size)
+        ∙ count_by_points (λ z. side_code C x y z == code_of e) (λ z. (colour_at C x z == e.left) && (colour_at C z y == e.right)) C.size (tests e small)
+
+    all : (i j : ℕ) → 0 < triangles C x y i j → Any (λ e. (e.left ≡ i) × (e.right ≡ j)) entries
+    all i j h =
+        let z = triangle_point C x y i j h in
+        let is : get_or (side_codes C x y) z.0 0 ≡ side_code C x y z.0 = get_or-map-range_with_len (side_code C x y) 0 C.size z.0 z.0 0 z.1 (omega arith) in
+        let each = All-permutation (λ code. Any (λ e. code_of e ≡ code) entries) codes (side_codes C x y) (IsPermutation-sym (side_codes C x y) codes p) t.complete in
+        let a = each z.0 0 (omega (arith, z.1, length-map-range_with_len (side_code C x y) 0 C.size)) in
+        let d : Entry = a.1 in
+        let small = t.small a.0 d a.2 in
+        let same : d.right < 2 ^ 32 = subst (λ (e : Entry). e.right < 2 ^ 32) a.3 small in
+        let both = same_from_place d.left d.right (colour_at C x z.0) (colour_at C z.0 y) (2 ^ 32) same (colour_small C fits z.0 y z.1 hy) (a.4 ∙ is) in
+        (a.0, d, a.2, a.3, (both.0 ∙ z.2, both.1 ∙ z.3))

@@ -1,9 +1,11 @@
-//! What is wrong with a relation text.
+//! What is wrong with a relation text, or with what is to be written.
 
 ghost use Rattle.std.specs.Prelude.{◌≡◌, ◌^◌, ◌<◌};
 ghost use Rattle.relation_text.specs.declared.faults.RelationFault.TheVariants as faults;
+ghost use Rattle.relation_text.specs.declared.faults.WriteFault.TheVariants as write_faults;
 
 use pair_colours::NoMemory;
+use std::alloc::AllocError;
 use thiserror::Error;
 
 // A fault and its byte place.
@@ -46,6 +48,33 @@ pub enum RelationFault {
     /// There is not enough memory.
     #[error("out of memory")]
     NoMemory,
+}
+
+/// Why a graph was not written.
+#[derive(Clone, Copy, Debug, PartialEq, Eq, Error)]
+pub enum WriteFault {
+    /// The set of colours is not that of a graph, or of a digraph.
+    #[error("the colours make no graph")]
+    BadSet,
+    /// There is not enough memory.
+    #[error("out of memory")]
+    NoMemory,
+}
+
+impl From<NoMemory> for WriteFault {
+    ghost from_gives = { λ _ fault. fault ≡ write_faults.NoMemory };
+
+    fn from(_error: NoMemory) -> WriteFault {
+        WriteFault::NoMemory
+    }
+}
+
+impl From<AllocError> for WriteFault {
+    ghost from_gives = { λ _ fault. fault ≡ write_faults.NoMemory };
+
+    fn from(_error: AllocError) -> WriteFault {
+        WriteFault::NoMemory
+    }
 }
 
 impl From<NoMemory> for RelationFault {

@@ -8,12 +8,17 @@
 //! * `graphs`: graph lines as a whole.
 //! * `matrices`, `matrix_rows`: matrices, and their rows.
 //! * `reading`: relations as a whole.
+//! * `edge_sets`: sets of colours as the edges of graphs.
+//! * `encoding`: sizes and bits as printable bytes.
+//! * `writers`: the texts that are written.
 //! * `laws`: what holds of the definitions alone.
 //!
 //! The definitions stand in `specs/`; docs/FORMATS.md has the formats in words.
 #![tactic(auto)]
 
 mod choosing;
+mod edge_sets;
+mod encoding;
 mod faults;
 mod graph_bits;
 mod graph_faults;
@@ -23,9 +28,11 @@ pub mod laws;
 mod matrices;
 mod matrix_rows;
 mod reading;
+mod writers;
 
-pub use faults::{RelationFault, RelationWord};
+pub use faults::{RelationFault, RelationWord, WriteFault};
 pub use reading::{MOST_RELATION, read_relation};
+pub use writers::{write_digraph6, write_graph6, write_matrix};
 
 #[cfg(test)]
 mod tests;

@@ -174,3 +174,76 @@ fn texts_are_refused(rt: HostRuntime) {
         );
     }
 }
+
+// The closures of the cube and of the directed 3-cycle.
+const CUBE: &[u8] =
+    b"matrix 8\n0 1 1 2 1 2 2 3\n1 0 2 1 2 1 3 2\n1 2 0 1 2 3 1 2\n2 1 1 0 3 2 2 1\n\
+    1 2 2 3 0 1 1 2\n2 1 3 2 1 0 2 1\n2 3 1 2 1 2 0 1\n3 2 2 1 2 1 1 0\n";
+
+const CYCLE: &[u8] = b"matrix 3\n0 1 2\n2 0 1\n1 2 0\n";
+
+#[test]
+fn graphs_are_written(rt: HostRuntime) -> Result<(), Fail> {
+    let alloc = rt.alloc();
+    let cube = read(&rt, CUBE, 1)?;
+    let graphs: [(&[u32], &[u8]); 3] = [(&[1], b"Gr`HOk"), (&[3], b"G?CaC?"), (&[3, 3], b"G?CaC?")];
+    for (set, want) in graphs {
+        assert_eq!(rt; write_graph6(alloc, &cube, set)?.as_slice(), want);
+    }
+    let bad: [&[u32]; 4] = [&[0], &[4], &[1, 0, 3], &[3, 70_000]];
+    for set in bad {
+        assert_eq!(rt;
+            write_graph6(alloc, &cube, set).err(),
+            Some(WriteFault::BadSet)
+        );
+    }
+    let cycle = read(&rt, CYCLE, 1)?;
+    assert_eq!(rt;
+        write_digraph6(alloc, &cycle, &[1])?.as_slice(),
+        b"&BP_".as_slice()
+    );
+    assert_eq!(rt;
+        write_graph6(alloc, &cycle, &[1]).err(),
+        Some(WriteFault::BadSet)
+    );
+    assert_eq!(rt;
+        write_digraph6(alloc, &cycle, &[1, 3]).err(),
+        Some(WriteFault::BadSet)
+    );
+    // The two arcs of each edge, in either order, make the triangle.
+    for set in [[1u32, 2], [2, 1]] {
+        assert_eq!(rt;
+            write_graph6(alloc, &cycle, &set)?.as_slice(),
+            b"Bw".as_slice()
+        );
+    }
+    Ok(())
+}
+
+#[test]
+fn what_is_written_is_read(rt: HostRuntime) -> Result<(), Fail> {
+    let alloc = rt.alloc();
+    let cycle = b"matrix 2\n7 7\n7 7\n".as_slice();
+    for text in [CUBE, CYCLE, cycle] {
+        let relation = read(&rt, text, 1)?;
+        assert_eq!(rt; write_matrix(alloc, &relation)?.as_slice(), text);
+    }
+    let cube = read(&rt, CUBE, 1)?;
+    let sets: [&[u32]; 5] = [&[], &[1], &[2], &[2, 3], &[3, 2, 1]];
+    for set in sets {
+        let graph = read(&rt, &write_graph6(alloc, &cube, set)?, 1)?;
+        let digraph = read(&rt, &write_digraph6(alloc, &cube, set)?, 1)?;
+        for x in 0..8 {
+            for y in 0..8 {
+                assert!(rt; cube.size() == 8 && graph.size() == 8 && digraph.size() == 8);
+                let want = if x == y {
+                    0
+                } else {
+                    2 - u32::from(set.contains(&cube.get(x, y)))
+                };
+                assert_eq!(rt; (graph.get(x, y), digraph.get(x, y)), (want, want));
+            }
+        }
+    }
+    Ok(())
+}

@@ -1,5 +1,5 @@
 -- A file of a task is not both good and bad, and the first bad file decides the status.
-use Rattle.std.proofs.Common.{◌≡◌, ◌<◌, ◌≤◌, ℕ, List, length, Option, Some, None, refl, sym, ap, subst, ◌∙◌, arith}
+use Rattle.std.proofs.Common.{◌≡◌, ℕ, List, length, Option, Some, None, sym, ap, subst, ◌∙◌, arith}
 use Rattle.std.specs.FinMap.{get}
 use Rattle.std.proofs.lemmas.Option.{none-some}
 use Rattle.scheme_io.specs.Files.{Files}
@@ -18,7 +18,7 @@ use Rattle.cohere_core.specs.declared.status.Status.{Status}
 use Rattle.cohere_core.specs.declared.status.Status.TheVariants.{BadInput, StoreFailed}
 use Rattle.cohere_core.specs.Task.{Task, Run}
 use Rattle.cohere_core.specs.Acts.{first_unbuilt}
-use Rattle.cohere_core.specs.Bad.{HoldsWithin, IsRelationFile, IsScriptFile, IsBuiltScript, IsTooLong, IsRelationFault, IsScriptFault, IsGood, IsFault, IsReached, IsFirstBad, NoneIsBad, name_in}
+use Rattle.cohere_core.specs.Bad.{HoldsWithin, IsRelationFile, IsBuiltScript, IsTooLong, IsRelationFault, IsScriptFault, IsGood, IsFault, IsFirstBad, NoneIsBad, name_in}
 use Rattle.cohere_core.specs.Run.{status_of}
 
 -- a file holds one text

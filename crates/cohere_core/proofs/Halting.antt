@@ -1,9 +1,8 @@
 -- A run that stops before it writes.
-use Rattle.std.proofs.Common.{◌≡◌, ◌⊎◌, ◌≢◌, ℕ, List, take, Option, Some, None, refl, sym, ap, subst, ◌∙◌, inl, inr}
+use Rattle.std.proofs.Common.{◌≡◌, ◌⊎◌, ℕ, List, Option, Some, None, refl, inl, inr}
 use Rattle.std.specs.Prelude.{IfSome, IsSome}
 use Rattle.std.specs.FinMap.{get}
 use Rattle.std.proofs.KnownBytes.{Keeps-refl, Appends-nil}
-use Rattle.std.specs.Io.KnownBytes.{Appends, Keeps}
 use Rattle.scheme_io.specs.Files.{Files}
 use Rattle.cohere_core.specs.declared.bad_files.FileFault.{FileFault}
 use Rattle.cohere_core.specs.declared.bad_files.FileFault.TheVariants.{Missing, TooLong, Relation, Script, NotYet}
@@ -14,13 +13,13 @@ use Rattle.cohere_core.specs.declared.inputs.Unread.TheVariants.{Bad, StoreFaile
 use Rattle.cohere_core.specs.declared.status.Status.{Status}
 use Rattle.cohere_core.specs.declared.status.Status.TheVariants as statuses
 use Rattle.cohere_core.specs.Task.{Task, Run}
-use Rattle.cohere_core.specs.Bad.{IsReached, IsFault, IsFirstBad, NoneIsBad, name_in}
+use Rattle.cohere_core.specs.Bad.{IsFault, IsFirstBad, NoneIsBad, name_in}
 use Rattle.pair_colours.specs.Colouring.{PairColouring}
 use Rattle.script_text.specs.declared.acts.Line.{Line}
-use Rattle.cohere_core.specs.Inputs.{IsCause, Halts, AreInputs}
+use Rattle.cohere_core.specs.Inputs.{Halts, AreInputs}
 use Rattle.cohere_core.specs.Output.{AddsScriptFront}
 use Rattle.cohere_core.specs.Halt.{halt_status, halt_line}
-use Rattle.cohere_core.specs.Run.{OutputAfter, AddsFrontOrNothing, ErrorLineAfter, IsStatusWithoutFaults, status_of}
+use Rattle.cohere_core.specs.Run.{OutputAfter, AddsFrontOrNothing, ErrorLineAfter, IsStatusWithoutFaults}
 use Rattle.cohere_core.proofs.Files.{none_is_first, first_bad_status}
 use Rattle.cohere_core.proofs.Outputs.{has_output}
 

@@ -1,5 +1,6 @@
 pub mod Pieces
 pub mod Files
+pub mod EdgeSets
 pub mod Runs
 pub mod ReadRelations
 pub mod Outputs

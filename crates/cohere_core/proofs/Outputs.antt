@@ -1,9 +1,6 @@
 -- Where no file is bad, there is an output.
-use Rattle.std.proofs.Common.{◌≤◌, ◌<◌, ℕ, List, [], ◌∷◌, zero, suc, arith}
-use Rattle.std.specs.Prelude.{slice_index_or}
-use Rattle.pair_colours.specs.Colouring.{PairColouring}
+use Rattle.std.proofs.Common.{ℕ, List}
 use Rattle.scheme_io.specs.Files.{Files}
-use Rattle.recolour_bench.specs.History.{History, IsHistory, IsRawColouring, started}
 use Rattle.recolour_bench.proofs.Stepping.{IsHistory-started}
 use Rattle.cohere_core.specs.Task.{Task, Run}
 use Rattle.cohere_core.specs.Bad.{NoneIsBad}

@@ -1,15 +1,15 @@
 -- A relation that is read has raw colours.
 use Rattle.std.proofs.Common.{◌≡◌, ◌==◌, ◌<◌, ◌≤◌, ◌+◌, ◌*◌, ◌/◌, ◌%◌, ◌^◌, ℕ, Bool, true, false, List, length, get_or, sym, ap, subst, ◌∙◌, arith, if◌then◌else◌}
-use Rattle.std.specs.Prelude.{All, Option, Some, None, IfSome}
+use Rattle.std.specs.Prelude.{Option, Some, None, IfSome}
 use Rattle.std.proofs.lemmas.Option.{slice_get-get_or}
 use Rattle.std.proofs.lemmas.List.Elements.{All-from_get_or}
 use Rattle.text_lines.specs.Part.{Part}
-use Rattle.pair_colours.specs.Colouring.{PairColouring, IsColouring, FitsColouring, colour_at}
+use Rattle.pair_colours.specs.Colouring.{PairColouring, colour_at}
 use Rattle.pair_colours.specs.declared.coloured_pairs.TheConstants.{MOST_COLOUR}
 use Rattle.pair_colours.proofs.Places.{at_place, row_below, column_below}
 use Rattle.relation_text.specs.Relation.{IsRelation, IsRelationText, pair_colour, bit_at}
 use Rattle.relation_text.specs.Relation.IsRelation.{graph, digraph, matrix}
-use Rattle.relation_text.proofs.GraphReadings.{colour_at-graph, colour_at-digraph, edge_bit, edge_colour}
+use Rattle.relation_text.proofs.GraphReadings.{colour_at-graph, colour_at-digraph, edge_bit}
 use Rattle.scheme_io.specs.Files.{Files, Holds}
 use Rattle.relation_text.specs.Faults.{IsFaultOf, relation_fault}
 use Rattle.relation_text.specs.declared.faults.RelationFault.{RelationFault}

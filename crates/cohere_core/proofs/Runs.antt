@@ -1,8 +1,8 @@
 -- Runs of answers.
-use Rattle.std.proofs.Common.{◌≡◌, ◌≤◌, ◌<◌, ◌⊎◌, ℕ, ◌+◌, Bool, true, false, not, cond, List, [], ◌∷◌, ◌++◌, length, get_or, take, drop, Option, ◌-◌, Some, None, ⊎_elim, refl, sym, ap, subst, ◌∙◌, arith, append_assoc, inl, inr, suc, zero}
+use Rattle.std.proofs.Common.{◌≡◌, ◌≤◌, ◌<◌, ◌⊎◌, ℕ, ◌+◌, Bool, true, false, not, cond, List, [], ◌∷◌, ◌++◌, length, get_or, take, drop, Option, Some, None, ⊎_elim, refl, sym, ap, subst, ◌∙◌, arith, append_assoc, inl, inr, suc, zero}
 use Rattle.std.proofs.lemmas.List.{take_more, drop_more, take-append-drop, append-nil, get_or-drop, length-drop}
 use Rattle.std.proofs.lemmas.Option.{slice_get-get_or, slice_get_within}
-use Rattle.std.specs.Prelude.{All, Result, Ok, Err, IfErr, OnErr, MatchOption, find, option_map, slice_get, codes}
+use Rattle.std.specs.Prelude.{Result, Ok, Err, IfErr, OnErr, MatchOption, find, option_map, slice_get, codes}
 use Rattle.std.proofs.KnownBytes.{Appends-nil, Appends-trans}
 use Rattle.std.specs.Io.KnownBytes.{Appends}
 use Rattle.scheme_io.specs.Bytes.{AppendsPart}
@@ -10,7 +10,6 @@ use Rattle.pair_colours.specs.Colouring.{PairColouring, FitsColouring}
 use Rattle.pair_colours.specs.Naming.{rank_of}
 use Rattle.pair_colours.proofs.Closures.{named_closure_exists}
 use Rattle.recolour_bench.specs.History.{History, IsHistory, present, started}
-use Rattle.recolour_bench.specs.declared.edits.EditFault.{EditFault}
 use Rattle.recolour_bench.specs.Steps as steps
 use Rattle.recolour_bench.proofs.Stepping.{IsRawColouring-closure, IsRawColouring-present, step_exists, step_keeps}
 use Rattle.report_text.specs.EditLines.{ok_text, refused_text_of}
@@ -25,15 +24,21 @@ use Rattle.scheme_tests.proofs.SomeAnswers.{answers_exist}
 use Rattle.pair_colours.specs.Closure.{IsClosureOf}
 use Rattle.drg_arrays.specs.declared.answer.ArrayAnswer.{ArrayAnswer}
 use Rattle.drg_arrays.specs.declared.answer.ArrayAnswer.TheVariants as arrays
-use Rattle.drg_arrays.proofs.SomeAnswer.{answer_exists}
+use Rattle.drg_arrays.proofs.SomeAnswer.{answer_exists, colours_or_not}
 use Rattle.script_text.specs.declared.acts.Act.{Act}
-use Rattle.script_text.specs.declared.acts.Act.TheVariants.{Set, Both, Fix, Join, Adopt, Undo, Redo, Show, Raw, Classes, Constants, Tests, Array}
+use Rattle.script_text.specs.declared.acts.Act.TheVariants.{Set, Both, Fix, Join, Adopt, Undo, Redo, Show, Raw, Classes, Constants, Tests, Array, Write}
 use Rattle.script_text.specs.declared.acts.Line.{Line}
+use Rattle.script_text.specs.declared.acts.GraphForm.TheVariants.{Graph6, Digraph6}
+use Rattle.relation_text.specs.Written.{graph6_of, digraph6_of}
+use Rattle.report_text.specs.Graphs.{graph_line}
+use Rattle.report_text.specs.declared.graphs.GraphNote.{GraphNote}
+use Rattle.report_text.specs.declared.graphs.GraphNote.TheVariants as notes
+use Rattle.cohere_core.proofs.EdgeSets.{edge_set_or_not}
 use Rattle.cohere_core.specs.declared.answering.SessionFault.{SessionFault}
 use Rattle.cohere_core.specs.declared.answering.SessionFault.TheVariants.{SinkFailed, NoMemory}
 use Rattle.cohere_core.specs.Acts.{is_built, AreBuilt, first_unbuilt}
-use Rattle.cohere_core.specs.Answer.{AnswersArray, OfConfiguration, IsAccepted, IsHalfway, Moves, Tells, Answers, Runs, Answered, Stopped, edit_word, move_of}
-use Rattle.cohere_core.specs.Output.{AddsScript, AddsScriptFront, ScriptOutput}
+use Rattle.cohere_core.specs.Answer.{AnswersArray, WritesGraph, OfConfiguration, IsHalfway, Moves, Tells, Answers, Runs, Answered, Stopped, edit_word, move_of}
+use Rattle.cohere_core.specs.Output.{AddsScriptFront, ScriptOutput}
 use Rattle.cohere_core.proofs.Pieces.{take_into}
 
 -- ---- one answer
@@ -71,6 +76,16 @@ has_query h (Array set) i b m =
     (λ bad. (refused_text_of (codes "BadSet"), inl (bad, refl)))
     (λ good. (array_text_of good.1.0, inr (good.0, (good.1.0, good.1.1, refl))))
     (answer_exists K fits set))
+has_query h (Write Graph6 set) i b m =
+    has_configuration h i (λ K t. WritesGraph K Graph6 set t) (λ K _ fits. ⊎_elim
+    (λ good. (graph_line notes.Graph6 (graph6_of K set), inr (good, refl)))
+    (λ bad. (refused_text_of (codes "BadSet"), inl (bad, refl)))
+    (edge_set_or_not K fits.colouring set))
+has_query h (Write Digraph6 set) i b m =
+    has_configuration h i (λ K t. WritesGraph K Digraph6 set t) (λ K _ fits. ⊎_elim
+    (λ good. (graph_line notes.Digraph6 (digraph6_of K set), inr (good, refl)))
+    (λ bad. (refused_text_of (codes "BadSet"), inl (bad, refl)))
+    (colours_or_not K fits.colouring set))
 has_query h (Set x y colour) i b m = absurd cc
 has_query h (Both x y colour) i b m = absurd cc
 has_query h (Fix x) i b m = absurd cc
@@ -102,6 +117,10 @@ array_has_bytes (arrays.Array b c) = omega arith
 array_has_bytes (arrays.Disconnected x y) = omega arith
 array_has_bytes (arrays.Irregular x y u v) = omega arith
 
+line_has_bytes : (form : GraphNote) (text : List ℕ) → 0 < length (graph_line form text)
+line_has_bytes notes.Graph6 text = omega arith
+line_has_bytes notes.Digraph6 text = omega arith
+
 query_has_bytes : (h : History) (act : Act) (t : List ℕ) → Tells h act t → 0 < length t
 query_has_bytes h Show t a = subst (λ (s : List ℕ). 0 < length s) (sym a.holds) (omega arith)
 query_has_bytes h Raw t a = subst (λ (s : List ℕ). 0 < length s) (sym a) (omega arith)
@@ -112,6 +131,16 @@ query_has_bytes h (Array set) t a =
     ⊎_elim
     (λ bad. subst (λ (s : List ℕ). 0 < length s) (sym bad.1) (omega arith))
     (λ good. subst (λ (s : List ℕ). 0 < length s) (sym good.1.2) (array_has_bytes good.1.0))
+    a.holds
+query_has_bytes h (Write Graph6 set) t a =
+    ⊎_elim
+    (λ bad. subst (λ (s : List ℕ). 0 < length s) (sym bad.1) (omega arith))
+    (λ good. subst (λ (s : List ℕ). 0 < length s) (sym good.1) (line_has_bytes notes.Graph6 (graph6_of a.configuration set)))
+    a.holds
+query_has_bytes h (Write Digraph6 set) t a =
+    ⊎_elim
+    (λ bad. subst (λ (s : List ℕ). 0 < length s) (sym bad.1) (omega arith))
+    (λ good. subst (λ (s : List ℕ). 0 < length s) (sym good.1) (line_has_bytes notes.Digraph6 (digraph6_of a.configuration set)))
     a.holds
 query_has_bytes h act t a = absurd a
 

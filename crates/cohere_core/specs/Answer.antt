@@ -21,8 +21,13 @@ use Rattle.drg_arrays.specs.declared.answer.ArrayAnswer.{ArrayAnswer}
 use Rattle.drg_arrays.specs.Graph.{IsGraphSet}
 use Rattle.drg_arrays.specs.Answer.{IsArrayAnswer}
 use Rattle.script_text.specs.declared.acts.Act.{Act}
-use Rattle.script_text.specs.declared.acts.Act.TheVariants.{Set, Both, Fix, Join, Adopt, Undo, Redo, Show, Raw, Classes, Constants, Tests, Array}
+use Rattle.script_text.specs.declared.acts.Act.TheVariants.{Set, Both, Fix, Join, Adopt, Undo, Redo, Show, Raw, Classes, Constants, Tests, Array, Write}
 use Rattle.script_text.specs.declared.acts.Line.{Line}
+use Rattle.script_text.specs.declared.acts.GraphForm.{GraphForm}
+use Rattle.script_text.specs.declared.acts.GraphForm.TheVariants.{Graph6, Digraph6}
+use Rattle.relation_text.specs.Written.{IsColourSet, IsEdgeSet, graph6_of, digraph6_of}
+use Rattle.report_text.specs.Graphs.{graph_line}
+use Rattle.report_text.specs.declared.graphs.GraphNote.TheVariants as notes
 use Rattle.cohere_core.specs.declared.answering.SessionFault.{SessionFault}
 use Rattle.cohere_core.specs.declared.answering.SessionFault.TheVariants.{SinkFailed, NoMemory}
 
@@ -69,6 +74,15 @@ AnswersArray K set t =
     (¬ IsGraphSet K set × (t ≡ refused_text_of (codes "BadSet")))
     ⊎ (IsGraphSet K set × ((answer : ArrayAnswer) × IsArrayAnswer K set answer × (t ≡ array_text_of answer)))
 
+-- t is the text of the graph of a set of classes of K in the format, or the set chooses no graph
+abbrev pub WritesGraph : PairColouring → GraphForm → List ℕ → List ℕ → Type 0
+WritesGraph K Graph6 set t =
+    (¬ IsEdgeSet K set × (t ≡ refused_text_of (codes "BadSet")))
+    ⊎ (IsEdgeSet K set × (t ≡ graph_line notes.Graph6 (graph6_of K set)))
+WritesGraph K Digraph6 set t =
+    (¬ IsColourSet K set × (t ≡ refused_text_of (codes "BadSet")))
+    ⊎ (IsColourSet K set × (t ≡ graph_line notes.Digraph6 (digraph6_of K set)))
+
 -- t answers a query at h; all queries but `raw` speak of the configuration
 abbrev pub Tells : History → Act → List ℕ → Type 0
 Tells h Show t = OfConfiguration h (λ K. t ≡ show_text K)
@@ -77,6 +91,7 @@ Tells h Classes t = OfConfiguration h (λ K. t ≡ classes_text_of K)
 Tells h Constants t = OfConfiguration h (λ K. t ≡ constants_text_of K)
 Tells h Tests t = OfConfiguration h (λ K. (tests : SchemeTests) × AreAnswers K tests × (t ≡ tests_text_of tests))
 Tells h (Array set) t = OfConfiguration h (λ K. AnswersArray K set t)
+Tells h (Write form set) t = OfConfiguration h (λ K. WritesGraph K form set t)
 Tells h _ t = ⊥
 
 -- t answers the act at h, which leads to next; a query changes nothing

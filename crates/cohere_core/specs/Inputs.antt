@@ -1,5 +1,5 @@
 -- Why a file was not read, and what is read before anything is written.
-use Rattle.std.specs.Prelude.{◌≡◌, ℕ, List, Option, IsSome, IfSome, ⊤}
+use Rattle.std.specs.Prelude.{◌≡◌, List, Option, IsSome, IfSome, ⊤}
 use Rattle.scheme_io.specs.Files.{Files}
 use Rattle.scheme_io.specs.declared.loading.LoadFault.{LoadFault}
 use Rattle.scheme_io.specs.declared.loading.LoadFault.TheVariants as loads

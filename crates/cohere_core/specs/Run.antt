@@ -4,7 +4,7 @@ use Rattle.std.specs.FinMap.{get}
 use Rattle.std.specs.Io.KnownBytes.{Appends, Keeps}
 use Rattle.scheme_io.specs.Files.{Files}
 use Rattle.cohere_core.specs.declared.bad_files.FileFault.{FileFault}
-use Rattle.cohere_core.specs.declared.bad_files.FileFault.TheVariants.{Missing, TooLong, Relation, Script, NotYet}
+use Rattle.cohere_core.specs.declared.bad_files.FileFault.TheVariants.{Missing}
 use Rattle.cohere_core.specs.declared.bad_files.FileRole.{FileRole}
 use Rattle.cohere_core.specs.declared.status.Status.{Status}
 use Rattle.cohere_core.specs.declared.status.Status.TheVariants.{Done, CheckedNo, Usage, BadInput, StoreFailed, SinkFailed, NoMemory}

@@ -94,6 +94,7 @@ fn has_answer(act: &Act) -> bool
             | Act::Constants
             | Act::Tests
             | Act::Array { .. }
+            | Act::Write { .. }
     )
 }
 

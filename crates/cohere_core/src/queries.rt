@@ -9,16 +9,18 @@ ghost use Rattle.report_text.specs.Tests.{tests_text_of};
 ghost use Rattle.scheme_tests.specs.declared.properties.SchemeTests.{SchemeTests};
 ghost use Rattle.scheme_tests.specs.Law.{AreAnswers};
 ghost use Rattle.cohere_core.specs.Acts.{is_built};
-ghost use Rattle.cohere_core.specs.Answer.{AnswersArray, OfConfiguration, Tells, move_of};
+ghost use Rattle.cohere_core.specs.Answer.{AnswersArray, OfConfiguration, Tells, WritesGraph, move_of};
 
 use drg_arrays::{ArrayFault, array};
 use pair_colours::{Colouring, NoMemory};
 use recolour_bench::Bench;
+use relation_text::{WriteFault, write_digraph6, write_graph6};
 use report_text::{
-    MatrixHead, array_text, classes_text, constants_text, matrix_text, refused_text, tests_text,
+    GraphNote, MatrixHead, array_text, classes_text, constants_text, graph_text, matrix_text,
+    refused_text, tests_text,
 };
 use scheme_tests::tests;
-use script_text::Act;
+use script_text::{Act, GraphForm};
 use std::alloc::Global;
 use struct_consts::Constants;
 
@@ -79,6 +81,38 @@ fn told_array(alloc: Global, bench: &Bench, set: &[u32]) -> Result<Vec<u8>, NoMe
     judged_array(alloc, bench.closure(), set)
 }
 
+// The graph6 text of a set of classes.
+fn written_graph6(alloc: Global, closure: &Colouring, set: &[u32]) -> Result<Vec<u8>, NoMemory>
+    ensures { IfOk result (λ text. WritesGraph closure.now GraphForm.Graph6 set.now text.items) }
+{
+    match write_graph6(alloc, closure, set) {
+        Ok(text) => graph_text(alloc, GraphNote::Graph6, &text),
+        Err(WriteFault::BadSet) => refused_text(alloc, "BadSet"),
+        Err(WriteFault::NoMemory) => Err(NoMemory),
+    }
+}
+
+// The digraph6 text of a set of classes.
+fn written_digraph6(alloc: Global, closure: &Colouring, set: &[u32]) -> Result<Vec<u8>, NoMemory>
+    ensures { IfOk result (λ text. WritesGraph closure.now GraphForm.Digraph6 set.now text.items) }
+{
+    match write_digraph6(alloc, closure, set) {
+        Ok(text) => graph_text(alloc, GraphNote::Digraph6, &text),
+        Err(WriteFault::BadSet) => refused_text(alloc, "BadSet"),
+        Err(WriteFault::NoMemory) => Err(NoMemory),
+    }
+}
+
+// The graph of a set of classes of the closure.
+fn written(alloc: Global, bench: &Bench, form: GraphForm, set: &[u32]) -> Result<Vec<u8>, NoMemory>
+    ensures { IfOk result (λ text. OfConfiguration bench.now (λ K. WritesGraph K form set.now text.items)) }
+{
+    match form {
+        GraphForm::Graph6 => written_graph6(alloc, bench.closure(), set),
+        GraphForm::Digraph6 => written_digraph6(alloc, bench.closure(), set),
+    }
+}
+
 /// Answers a query.
 pub fn told(alloc: Global, bench: &Bench, act: &Act) -> Result<Vec<u8>, NoMemory>
     requires built { is_built act.now ≡ true }
@@ -92,6 +126,7 @@ pub fn told(alloc: Global, bench: &Bench, act: &Act) -> Result<Vec<u8>, NoMemory
         Act::Constants => listed_constants(alloc, bench),
         Act::Tests => listed_tests(alloc, bench),
         Act::Array { set } => told_array(alloc, bench, set.as_slice()),
+        Act::Write { form, set } => written(alloc, bench, *form, set.as_slice()),
         _ => unreachable!(),
     }
 }

@@ -1,5 +1,5 @@
 // Runs over stores and sinks in memory: what is answered, written and said.
-use crate::*;
+use crate::{Status, run};
 use scheme_io::{MemorySink, MemoryStore};
 use std::alloc::{AllocError, Global};
 use std::process::Abort;

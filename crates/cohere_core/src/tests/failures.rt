@@ -1,6 +1,6 @@
 // Stores and sinks that fail.
 use super::words_of;
-use crate::*;
+use crate::{Status, run};
 use scheme_io::{MemorySink, MemoryStore};
 use std::test::Fail;
 

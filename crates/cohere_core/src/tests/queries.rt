@@ -118,3 +118,23 @@ array irregular 0 1 1 0
     )?;
     Ok(())
 }
+
+#[test]
+fn graphs_of_classes(rt: HostRuntime) -> Result<(), Fail> {
+    let alloc = rt.alloc();
+    answers(
+        &rt,
+        alloc,
+        b"Gr`HOk\n",
+        b"write graph6 1\nwrite graph6 3\n",
+        b"graph6 Gr`HOk\ngraph6 G?CaC?\n",
+    )?;
+    answers(
+        &rt,
+        alloc,
+        b"&BP_\n",
+        b"write digraph6 1\nwrite graph6 1\n",
+        b"digraph6 &BP_\nrefused BadSet\n",
+    )?;
+    Ok(())
+}

@@ -1,7 +1,3 @@
-use Rattle.std.proofs.Common.{List, ℕ, refl, sym, subst}
-use Rattle.std.specs.Prelude.{IfErr, OnErr}
-use Rattle.recolour_bench.specs.History.{History, started}
-use Rattle.cohere_core.specs.Answer.{Stopped}
 use Rattle.recolour_bench.proofs.Stepping.{IsHistory-started}
 use Rattle.cohere_core.proofs.Runs.{nothing_of_output, front_after}
 use Rattle.cohere_core.proofs.answering.answer_script.Goals as goal

@@ -1,4 +1,4 @@
-use Rattle.std.proofs.Common.{◌≡◌, Option, List, ℕ, sym, subst}
+use Rattle.std.proofs.Common.{◌≡◌, Option, sym, subst}
 use Rattle.std.specs.Prelude.{OnErr, MatchOption}
 use Rattle.recolour_bench.specs.Steps as steps
 use Rattle.cohere_core.specs.Answer.{IsHalfway, Moves, Tells}

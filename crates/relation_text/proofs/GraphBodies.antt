@@ -171,7 +171,7 @@ second_long n rest h = ap (λ bytes. get_or (bytes ++ rest) 1 0) (size_bytes-lon
 long_from : (n : ℕ) (rest : List ℕ) → get_or (size_bytes n ++ rest) 0 0 ≡ 126 → 62 < n
 long_from n rest e = elim (cases_lt 62 n) [ inl long ↦ long | inr short ↦ let first = first_short n rest short in absurd (omega arith) ]
 
-size_len-some : (n : ℕ) → 1 ≤ size_len n
+pub size_len-some : (n : ℕ) → 1 ≤ size_len n
 size_len-some n = elim (leb n 62) as (λ b. 1 ≤ cond b 1 4) [ true ↦ omega arith | false ↦ omega arith ]
 
 -- the encoding of a number of points and of the right number of bits is a good line

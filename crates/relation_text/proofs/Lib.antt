@@ -16,3 +16,5 @@ pub mod MatrixLoops
 pub mod EdgeSets
 pub mod BitWrites
 pub mod PairWrites
+pub mod ReadBack
+pub mod RawColours

@@ -27,7 +27,7 @@ use Rattle.relation_text.proofs.MatrixReadings.{matrix-from_none, none-from_matr
 use Rattle.relation_text.proofs.SameColours.{SameColours, same_colouring}
 
 -- a text that begins with another
-begins : (xs p : List ℕ) → starts_with nat_eq xs p ≡ true → xs ≡ p ++ drop (length p) xs
+pub begins : (xs p : List ℕ) → starts_with nat_eq xs p ≡ true → xs ≡ p ++ drop (length p) xs
 begins xs p e = (starts_is Decides-eqb xs p (starts_with nat_eq xs p) refl).0 e
 
 starts : (xs p rest : List ℕ) → xs ≡ p ++ rest → starts_with nat_eq xs p ≡ true

@@ -1,7 +1,9 @@
--- Each text has, at each line, one reading or one fault.
-use Rattle.std.specs.Prelude.{◌≡◌, ℕ, ◌≤◌, List, MatchOption}
-use Rattle.pair_colours.specs.Colouring.{PairColouring}
-use Rattle.relation_text.specs.Relation.{IsRelationText}
+-- Each text has, at each line, one reading or one fault; and what is written is read back.
+use Rattle.std.specs.Prelude.{◌≡◌, ℕ, ◌<◌, ◌≤◌, List, MatchOption}
+use Rattle.pair_colours.specs.Colouring.{PairColouring, IsColouring, colour_at}
+use Rattle.pair_colours.specs.declared.coloured_pairs.TheConstants.{MOST_POINTS}
+use Rattle.relation_text.specs.Relation.{IsRelationText, pair_colour}
+use Rattle.relation_text.specs.Written.{is_in, graph6_of, digraph6_of, IsEdgeSet}
 use Rattle.relation_text.specs.Faults.{relation_fault}
 
 -- where there is no fault there is a reading, and where there is a fault there is none
@@ -13,3 +15,17 @@ ReadsOrFails = (text : List ℕ) (line : ℕ) → 1 ≤ line → MatchOption (re
 -- and there is one reading at most
 abbrev pub ReadingIsUnique : Type 0
 ReadingIsUnique = (text : List ℕ) (line : ℕ) (C D : PairColouring) → IsRelationText text line C → IsRelationText text line D → C ≡ D
+
+-- D is the graph of a set of colours of C: its edges, or its arcs and loops, are the pairs with a colour in the set
+pub record IsGraphOf (C : PairColouring) (set : List ℕ) (D : PairColouring) : Type 0 where
+  pub colouring : IsColouring D
+  pub points : D.size ≡ C.size
+  pub colours : (x y : ℕ) → x < C.size → y < C.size → colour_at D x y ≡ pair_colour x y (is_in set (colour_at C x y))
+
+-- what is written of a graph is read back
+abbrev pub GraphIsReadBack : Type 0
+GraphIsReadBack = (C : PairColouring) (set : List ℕ) → C.size ≤ MOST_POINTS → IsEdgeSet C set → (D : PairColouring) → IsGraphOf C set D → IsRelationText (graph6_of C set) 1 D
+
+-- and of a digraph
+abbrev pub DigraphIsReadBack : Type 0
+DigraphIsReadBack = (C : PairColouring) (set : List ℕ) → C.size ≤ MOST_POINTS → (D : PairColouring) → IsGraphOf C set D → IsRelationText (digraph6_of C set) 1 D

@@ -4,3 +4,4 @@ pub mod FirstWord
 pub mod Within
 pub mod Numbers
 pub mod WordBytes
+pub mod OneLine

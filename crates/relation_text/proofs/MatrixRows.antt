@@ -9,12 +9,11 @@ use Rattle.std.proofs.lemmas.Bool.{cases_lt, cases_Bool, or_cases, and_parts, or
 use Rattle.std.proofs.lemmas.Option.{slice_get-get_or, slice_get_within, get_or_from_slice_get}
 use Rattle.std.proofs.lemmas.List.Elements.{All-nil, All-cons, All-head, All-tail, All-weaker, All-from_get_or, All-get_or}
 use Rattle.std.proofs.lemmas.List.Folds.{list_any_none}
-use Rattle.std.proofs.lemmas.Str.Parse.{numerals_by_value, tells_all_ascii_digits, IsNumeralModel}
 use Rattle.std.proofs.lemmas.Fmt.{digits_decimal, digits_value-decimal}
 use Rattle.text_lines.specs.Part.{Part}
 use Rattle.text_lines.specs.Words.{words_of, is_blank_byte}
 use Rattle.text_lines.specs.Number.{IsNumberForm, has_leading_zero}
-use Rattle.text_lines.proofs.Numbers.{IsNumberForm-from_digits, has_leading_zero-decimal}
+use Rattle.text_lines.proofs.Numbers.{digit_numerals, IsNumberForm-from_digits, has_leading_zero-decimal}
 use Rattle.text_lines.proofs.WordBytes.{words_from-bytes, words_from-some, bytes-words_from}
 use Rattle.pair_colours.specs.Colouring.{PairColouring, colour_at}
 use Rattle.pair_colours.specs.declared.coloured_pairs.TheConstants.{MOST_COLOUR}
@@ -94,9 +93,6 @@ length-words n row good = elim (cases_lt n (length (words_of row))) [
   | inr fewer ↦ let enough = good.enough in omega arith
 ]
 
-own : IsNumeralModel (λ ds. all_ascii_digits ds ≡ true) (digits_value 10)
-own = numerals_by_value (λ ds. all_ascii_digits ds ≡ true) tells_all_ascii_digits
-
 all_digits : (bytes : List ℕ) → All (λ b. is_ascii_digit b ≡ true) bytes → all_ascii_digits bytes ≡ true
 all_digits [] all = refl
 all_digits (b ∷ bytes) all = and_from (is_ascii_digit b) (all_ascii_digits bytes) (All-head (λ x. is_ascii_digit x ≡ true) b bytes all) (all_digits bytes (All-tail (λ x. is_ascii_digit x ≡ true) b bytes all))
@@ -131,7 +127,7 @@ row-from_matrix row C x is =
     let digits : All (λ word. All (λ b. is_ascii_digit b ≡ true) word.bytes) (words_of row) = λ k d h.
     let word = get_or (words_of row) k d in
     let form = is.colour k word (slice_get-get_or (words_of row) k d h) in
-    each_digit word.bytes (rw form.digits (digits_decimal own (colour_at C x k) (omega (arith, form.limit)))) in
+    each_digit word.bytes (rw form.digits (digits_decimal digit_numerals (colour_at C x k) (omega (arith, form.limit)))) in
     let none_else = bytes-words_from (λ b. is_ascii_digit b ≡ true) row.start row.bytes digits in
     record {
       row_bytes = λ k d h.
@@ -145,7 +141,7 @@ row-from_matrix row C x is =
           let inside = slice_get_within (words_of row) k word e in
           let size = is.numbers in
           let below : k < C.size = omega arith in
-          let value : digits_value 10 word.bytes ≡ colour_at C x k = ap (digits_value 10) form.digits ∙ digits_value-decimal own (colour_at C x k) (omega (arith, form.limit)) in
+          let value : digits_value 10 word.bytes ≡ colour_at C x k = ap (digits_value 10) form.digits ∙ digits_value-decimal digit_numerals (colour_at C x k) (omega (arith, form.limit)) in
           record { within = below; plain = rw form.digits (has_leading_zero-decimal (colour_at C x k) form.limit); limit = omega (arith, is.limit k below) };
       enough = let size = is.numbers in omega arith;
     }

@@ -1,26 +1,24 @@
 -- What is written of a graph is read back.
-use Rattle.std.proofs.Common.{◌≡◌, ◌≢◌, ℕ, ◌+◌, ◌-◌, ◌*◌, ◌<◌, ◌≤◌, Bool, true, false, cond, List, [], ◌∷◌, ◌++◌, length, map, drop, get_or, refl, sym, ap, subst, ◌∙◌, arith, inl, inr, length-append}
+use Rattle.std.proofs.Common.{◌≡◌, ◌≢◌, ℕ, ◌+◌, ◌*◌, ◌<◌, ◌≤◌, Bool, true, false, cond, List, [], ◌∷◌, ◌++◌, length, drop, get_or, refl, sym, ap, ◌∙◌, arith, inl, inr}
 use Rattle.std.specs.Prelude.{All, codes, nat_eq}
 use Rattle.std.specs.List.{starts_with}
-use Rattle.std.proofs.lemmas.Bool.{cases_order, cases_Bool, false_from_ne_true, both_ways}
+use Rattle.std.proofs.lemmas.Bool.{cases_order, false_from_ne_true}
 use Rattle.std.proofs.lemmas.List.{get_or-map, length-map}
-use Rattle.std.proofs.lemmas.List.Elements.{All-append, All-cons, All-weaker}
-use Rattle.text_lines.specs.Part.{Part}
-use Rattle.text_lines.specs.Lines.{lines_of}
+use Rattle.std.proofs.lemmas.List.Elements.{All-cons, All-weaker}
 use Rattle.text_lines.proofs.OneLine.{lines_of-one}
-use Rattle.pair_colours.specs.Colouring.{PairColouring, IsColouring, colour_at}
+use Rattle.pair_colours.specs.Colouring.{PairColouring, colour_at}
 use Rattle.pair_colours.specs.declared.coloured_pairs.TheConstants.{MOST_POINTS}
 use Rattle.relation_text.specs.declared.graph_format.GraphFormat.{GraphFormat}
 use Rattle.relation_text.specs.declared.graph_format.GraphFormat.TheVariants.{Graph, Digraph}
 use Rattle.relation_text.specs.Bits.{size_bytes, bit_bytes}
 use Rattle.relation_text.specs.Orders.{column_pairs, row_pairs, pair_at, pairs_of, column_place}
 use Rattle.relation_text.specs.Lines.{header_len, first_line_after, lines_at}
-use Rattle.relation_text.specs.Relation.{IsRelationText, IsRelation, graph, digraph, IsBitText, pair_colour, bit_at}
+use Rattle.relation_text.specs.Relation.{IsRelationText, graph, digraph, IsBitText, pair_colour, bit_at}
 use Rattle.relation_text.specs.Faults.{is_graph_byte}
 use Rattle.relation_text.specs.Written.{is_in, pair_bits, graph6_of, digraph6_of, IsEdgeSet}
 use Rattle.relation_text.specs.Law.{IsGraphOf}
-use Rattle.relation_text.proofs.SizeLemmas.{from_graph_byte, length-size_bytes}
-use Rattle.relation_text.proofs.GraphBodies.{IsSize, IsGraphBody, body-from_IsBitText, size_len-some}
+use Rattle.relation_text.proofs.SizeLemmas.{from_graph_byte}
+use Rattle.relation_text.proofs.GraphBodies.{IsSize, body-from_IsBitText}
 use Rattle.relation_text.proofs.GraphReadings.{edge_colour, edge_bit-below, edge_bit-above, edge_bit-diagonal, IsGraphLine-from_colours, IsDigraphLine-from_colours}
 use Rattle.relation_text.proofs.OrderLemmas.{column_pairs-at, row_pairs-at}
 use Rattle.relation_text.proofs.Readings.{begins}

@@ -7,11 +7,10 @@ use Rattle.pair_colours.specs.Colouring.{PairColouring, colour_at, points, trian
 use Rattle.pair_colours.specs.Closure.{Coherent}
 use Rattle.pair_colours.specs.Naming.{rank_of}
 use Rattle.pair_colours.specs.IntersectionNumber.{pair_of_class, intersection_number}
-use Rattle.pair_colours.proofs.Counts.{count_by_points, unit_of}
+use Rattle.pair_colours.proofs.Counts.{count_by_points, unit_of, triangle_point}
 use Rattle.pair_colours.proofs.Measure.{sum_by_points_more}
 use Rattle.triangle_count.specs.declared.rows.Entry.{Entry}
 use Rattle.triangle_count.specs.Row.{IsRowAt}
-use Rattle.triangle_count.proofs.RowLemmas.{triangle_point}
 use Rattle.struct_consts.specs.ClassData.{IsConfiguration, row_count, valency_of, fibres_of}
 use Rattle.struct_consts.proofs.Configurations.{pair_of_class-holds}
 

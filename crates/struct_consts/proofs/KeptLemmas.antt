@@ -7,7 +7,7 @@ use Rattle.pair_colours.specs.Naming.{rank_of, first_pair_of, transpose_of}
 use Rattle.pair_colours.specs.IntersectionNumber.{pair_of_class}
 use Rattle.triangle_count.specs.declared.rows.Entry.{Entry}
 use Rattle.triangle_count.specs.Row.{IsRowAt}
-use Rattle.triangle_count.proofs.RowLemmas.{triangle_point}
+use Rattle.pair_colours.proofs.Counts.{triangle_point}
 use Rattle.struct_consts.specs.declared.classes.Class.{Class}
 use Rattle.struct_consts.specs.ClassData.{IsConfiguration, class_size}
 use Rattle.struct_consts.specs.Kept.{IsClassData, IsConstants, HasFirstPairs, HasSizes}

@@ -8,8 +8,9 @@ use Rattle.std.proofs.lemmas.Str.Parse.{numerals_by_value, tells_all_ascii_digit
 use Rattle.std.proofs.lemmas.Fmt.{decimal-digits_value, digits_decimal, digits_value-decimal, decimal_nonempty, decimal_digit, first_decimal, decimal_injective}
 use Rattle.text_lines.specs.Number.{IsNumberForm, has_leading_zero, number_of}
 
-own : IsNumeralModel (λ ds. all_ascii_digits ds ≡ true) (digits_value 10)
-own = numerals_by_value (λ ds. all_ascii_digits ds ≡ true) tells_all_ascii_digits
+-- texts of digits are numerals, and the digits tell the value
+pub digit_numerals : IsNumeralModel (λ ds. all_ascii_digits ds ≡ true) (digits_value 10)
+digit_numerals = numerals_by_value (λ ds. all_ascii_digits ds ≡ true) tells_all_ascii_digits
 
 -- a word is one number at most
 pub IsNumberForm-unique : (word : List ℕ) (m n : ℕ) → IsNumberForm word m → IsNumberForm word n → m ≡ n
@@ -37,9 +38,9 @@ pub number_of-form : (word : List ℕ) (n : ℕ) → IsNumberForm word n → num
 number_of-form word n form = rw form.digits (
     let text = decimal n in
     let long : n < 2 ^ 64 = omega (arith, form.limit) in
-    let value : digits_value 10 text ≡ n = digits_value-decimal own n long in
+    let value : digits_value 10 text ≡ n = digits_value-decimal digit_numerals n long in
     let some : ltb 0 (length text) ≡ true = lt-ltb 0 (length text) (decimal_nonempty n long) in
-    let digits : all_ascii_digits text ≡ true = digits_decimal own n long in
+    let digits : all_ascii_digits text ≡ true = digits_decimal digit_numerals n long in
     let plain : not (has_leading_zero text) ≡ true = ap not (has_leading_zero-decimal n form.limit) in
     let small : ltb (digits_value 10 text) (2 ^ 32) ≡ true = lt-ltb (digits_value 10 text) (2 ^ 32) (rw value form.limit) in
     ap (λ b. cond b (Some (digits_value 10 text)) None) (and_from (ltb 0 (length text) && all_ascii_digits text && not (has_leading_zero text)) (ltb (digits_value 10 text) (2 ^ 32))
@@ -49,7 +50,7 @@ number_of-form word n form = rw form.digits (
 -- digits without a leading zero are in the number form, where their value is below 2^32
 pub IsNumberForm-from_digits : (word : List ℕ) → 0 < length word → all_ascii_digits word ≡ true → has_leading_zero word ≡ false → digits_value 10 word < 2 ^ 32 → IsNumberForm word (digits_value 10 word)
 IsNumberForm-from_digits word some digits plain small = record {
-  digits = sym (decimal-digits_value own word digits some (λ zero_first. elim (cases_lt 1 (length word)) [
+  digits = sym (decimal-digits_value digit_numerals word digits some (λ zero_first. elim (cases_lt 1 (length word)) [
     | inl more ↦ absurd (false≢true (sym plain ∙ and_from (ltb 1 (length word)) (eqb (get_or word 0 0) 48) (lt-ltb 1 (length word) more) (eq-eqb (get_or word 0 0) 48 zero_first)))
     | inr one ↦ omega arith
   ]) (omega (arith, small)));

@@ -1,27 +1,18 @@
 -- The entries of the codes over all points are the triangle numbers.
 use Rattle.std.proofs.Common.{◌≡◌, ◌==◌, ◌&&◌, ℕ, ◌+◌, ◌*◌, ◌^◌, ◌<◌, ◌≤◌, Bool, List, get_or, count_by, Any, inl, inr, ⊎_elim, sym, ap, subst, ◌∙◌, arith}
 use Rattle.std.specs.List.Sorted.{IsPermutation}
-use Rattle.std.proofs.lemmas.Bool.{cases_lt, eqb-true, and_parts}
+use Rattle.std.proofs.lemmas.Bool.{cases_lt}
 use Rattle.std.proofs.lemmas.Bool.Decides.{Decides-eqb, Decides-and, Decides-like, same_from_decides}
 use Rattle.std.proofs.lemmas.Nat.{same_from_place}
-use Rattle.std.proofs.lemmas.List.FromFn.{get_or-range_with_len, length-range_with_len, get_or-map-range_with_len, length-map-range_with_len}
+use Rattle.std.proofs.lemmas.List.FromFn.{length-range_with_len, get_or-map-range_with_len, length-map-range_with_len}
 use Rattle.std.proofs.lemmas.List.Sums.{sum_by_push, count_by-le-length}
 use Rattle.std.proofs.lemmas.List.Sorted.{IsPermutation-sym, sum_by-IsPermutation, All-permutation}
 use Rattle.pair_colours.specs.Colouring.{PairColouring, FitsColouring, colour_at, points, triangles}
-use Rattle.pair_colours.proofs.Counts.{found, count_by-map, count_by_points, points_more, unit_of}
+use Rattle.pair_colours.proofs.Counts.{triangle_point, count_by-map, count_by_points, points_more, unit_of}
 use Rattle.pair_colours.proofs.Places.{place_below}
 use Rattle.triangle_count.specs.declared.rows.Entry.{Entry}
 use Rattle.triangle_count.specs.Row.{Precedes, IsRowAt}
 use Rattle.triangle_count.specs.Runs.{code_of, side_code, side_codes, IsTally}
-
--- where triangles of two colours stand, a point shows them
-pub triangle_point : (C : PairColouring) (x y i j : ℕ) → 0 < triangles C x y i j → (z : ℕ) × (z < C.size) × (colour_at C x z ≡ i) × (colour_at C z y ≡ j)
-triangle_point C x y i j h =
-    let k = found (λ z. (colour_at C x z == i) && (colour_at C z y == j)) (points C.size) h in
-    let l : k.0 < C.size = omega (arith, k.1, length-range_with_len 0 C.size) in
-    let at : get_or (points C.size) k.0 0 ≡ k.0 = omega (arith, get_or-range_with_len 0 C.size k.0 0 l) in
-    let both = and_parts (colour_at C x (get_or (points C.size) k.0 0) == i) (colour_at C (get_or (points C.size) k.0 0) y == j) (k.2 0) in
-    (k.0, l, ap (colour_at C x) (sym at) ∙ eqb-true _ i both.0, ap (λ z. colour_at C z y) (sym at) ∙ eqb-true _ j both.1)
 
 -- a colour of a colouring that the program keeps
 pub colour_small : (C : PairColouring) → FitsColouring C → (x y : ℕ) → x < C.size → y < C.size → colour_at C x y < 2 ^ 32

@@ -1,15 +1,14 @@
-use Rattle.std.proofs.Common.{◌≡◌, ◌==◌, ◌&&◌, Bool, true, false, get_or, take, drop, count_by, ⊎_elim, ◌/◌, ◌%◌, ℕ, ◌+◌, ◌*◌, ◌^◌, ◌<◌, List, [], ◌∷◌, ◌++◌, length, map, refl, sym, ap, subst, ◌∙◌, arith, if◌then◌else◌}
+use Rattle.std.proofs.Common.{◌≡◌, ◌==◌, ◌&&◌, Bool, true, false, get_or, take, drop, count_by, ◌/◌, ◌%◌, ℕ, ◌+◌, ◌*◌, ◌^◌, ◌<◌, List, [], ◌∷◌, ◌++◌, length, map, refl, sym, ap, subst, ◌∙◌, arith, if◌then◌else◌}
 use Rattle.std.specs.List.Sorted.{IsPermutation, IsSorted}
 use Rattle.std.specs.Ordering.{nat_cmp}
 use Rattle.std.specs.Int.{from_bool}
-use Rattle.std.proofs.lemmas.Bool.{cases_eq, eq-eqb, ne_eqb}
 use Rattle.std.proofs.lemmas.Bool.Decides.{Decides-eqb, Decides-like, same_from_decides}
 use Rattle.std.proofs.lemmas.Nat.{div-mul-add, mod-mul-add}
 use Rattle.std.proofs.lemmas.List.FromFn.{map-range_with_len_more, length-range_with_len}
 use Rattle.std.proofs.lemmas.List.{append_assoc, take_at, drop_at, length-map}
 use Rattle.std.proofs.lemmas.List.Sorted.{length_permutation, sum_by-IsPermutation, IsPermutation-map, IsNonDecreasingBy-from_sort}
 use Rattle.pair_colours.specs.Rounds.{Alike}
-use Rattle.pair_colours.proofs.Counts.{unit_of, count_by-map, count_by_points}
+use Rattle.pair_colours.proofs.Counts.{unit_of, unit_of-one, count_by-map, count_by_points}
 use Rattle.pair_colours.proofs.ListLemmas.{map-map}
 use Rattle.pair_colours.proofs.Places.{place_below}
 use Rattle.pair_colours.proofs.Rounds.{sides, IsPermutation-sides}
@@ -76,11 +75,6 @@ length-in_order xs = length_permutation xs (in_order xs) (IsPermutation-in_order
 length-codes_of : (P : PairColouring) (x y : ℕ) → length (codes_of P x y) ≡ P.size
 length-codes_of P x y = length-map (points P.size) (λ z. colour_at P x z * 2 ^ 32 + colour_at P z y) ∙ length-range_with_len 0 P.size
 
-flag-one : (x y u v : ℕ) → unit_of (x == y) ≡ unit_of (u == v) → x ≡ y → u ≡ v
-flag-one x y u v e d =
-    ⊎_elim (λ same. same)
-    (λ ne. absurd (omega (arith, e, ap (λ b. unit_of b) (eq-eqb x y d), ap (λ b. unit_of b) (ne_eqb u v ne)))) (cases_eq u v)
-
 -- pairs of one signature are alike
 pub Alike-from_signature : (P : PairColouring) → FitsColouring P → (x y u v : ℕ) → y < P.size → v < P.size → signature_of P x y ≡ signature_of P u v → Alike P x y u v
 Alike-from_signature P h x y u v hy hv e =
@@ -91,7 +85,7 @@ Alike-from_signature P h x y u v hy hv e =
     let turned : colour_at P y x ≡ colour_at P v u = ap (λ (l : List ℕ). get_or l 2 0) parts.1 in
     let same = IsPermutation-from_in_order (codes_of P x y) (codes_of P u v) parts.0 in
     record {
-      diagonal = (flag-one x y u v flag, flag-one u v x y (sym flag));
+      diagonal = (unit_of-one x y u v flag, unit_of-one u v x y (sym flag));
       own = own;
       turned = turned;
       counts = λ i j.

@@ -1,9 +1,9 @@
 //! The five tests.
 
-ghost use Rattle.std.specs.Prelude.{◌≡◌, ◌↔◌, ◌<◌, ℕ, IsTrue, IfOk};
+ghost use Rattle.std.specs.Prelude.{◌↔◌, ◌<◌, IsTrue, IfOk};
 ghost use Rattle.pair_colours.specs.Colouring.{PairColouring};
 ghost use Rattle.pair_colours.specs.Naming.{rank_of};
-ghost use Rattle.struct_consts.specs.ClassData.{IsConfiguration, valency_of};
+ghost use Rattle.struct_consts.specs.ClassData.{IsConfiguration};
 ghost use Rattle.scheme_tests.specs.SchemeTests.{Homogeneous, Symmetric, Commutative, CommutesAt, Thin, Primitive};
 
 use crate::spans::all_span;
@@ -94,8 +94,9 @@ fn is_thin(k: &Constants) -> bool
     is_homogeneous(k) && has_valencies_one(k)
 }
 
+// Whether each class has valency 1: in a homogeneous configuration, whether it is thin.
 fn has_valencies_one(k: &Constants) -> bool
-    ensures { IsTrue result ↔ ((c : ℕ) → c < rank_of k.now → valency_of k.now c ≡ 1) }
+    ensures { Homogeneous k.now → (IsTrue result ↔ Thin k.now) }
 {
     for class in 0..k.rank() {
         if k.valency(class) != 1 {

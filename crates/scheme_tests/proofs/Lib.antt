@@ -4,3 +4,4 @@ pub mod ClosedSets
 pub mod TestLemmas
 pub mod SomeMarks
 pub mod SomeAnswers
+pub mod OneOrder

@@ -3,7 +3,7 @@
 //!
 //! * `properties`: `SchemeTests` and `tests`, with the tests that look up constants.
 //! * `spans`: whether the least closed subset that holds a class is everything.
-//! * `laws`: every configuration has answers.
+//! * `laws`: every configuration has answers, and commutativity needs one order of classes.
 //!
 //! The definitions stand in `specs/SchemeTests.antt`; closed sets are pair_colours'.
 #![tactic(auto)]

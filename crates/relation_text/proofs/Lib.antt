@@ -16,5 +16,6 @@ pub mod MatrixLoops
 pub mod EdgeSets
 pub mod BitWrites
 pub mod PairWrites
+pub mod RowWrites
 pub mod ReadBack
 pub mod RawColours

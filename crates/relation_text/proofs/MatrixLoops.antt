@@ -12,7 +12,7 @@ use Rattle.relation_text.specs.declared.faults.RelationWord.{RelationWord}
 use Rattle.relation_text.specs.declared.faults.RelationWord.TheVariants.{MatrixCount}
 use Rattle.relation_text.specs.Lines.{end_of}
 use Rattle.relation_text.specs.Faults.{first_fault, row_tests, head_tests, matrix_tests}
-use Rattle.relation_text.specs.Views.{no_part, cell_of, cell, size_in}
+use Rattle.relation_text.specs.LineColours.{no_part, cell_of, cell, size_in}
 use Rattle.relation_text.proofs.TestLemmas.{first_fault-append_none, first_fault-append_some}
 
 -- the first fault of the rows from row x on

@@ -14,7 +14,7 @@ use Rattle.text_lines.proofs.Numbers.{number_of-form, form-number_of, IsNumberFo
 use Rattle.pair_colours.specs.Colouring.{PairColouring, colour_at, points}
 use Rattle.pair_colours.specs.declared.coloured_pairs.TheConstants.{MOST_POINTS}
 use Rattle.relation_text.specs.Relation.{IsMatrix}
-use Rattle.relation_text.specs.Views.{no_part, cell, size_in}
+use Rattle.relation_text.specs.LineColours.{no_part, cell, size_in}
 use Rattle.relation_text.specs.Faults.{Test, first_fault, row_tests, head_word, head_tests, matrix_tests}
 use Rattle.relation_text.proofs.TestLemmas.{AllFail, AllFail-from_none, none-from_AllFail}
 use Rattle.relation_text.proofs.GraphBodies.{IsSize}

@@ -1,14 +1,12 @@
 -- Lists that are written pair by pair.
-use Rattle.std.proofs.Common.{◌≡◌, ℕ, ◌+◌, ◌<◌, ◌≤◌, Bool, List, [], ◌∷◌, ◌++◌, length, map, refl, sym, ap, ◌∙◌, arith, append_assoc}
-use Rattle.std.specs.Prelude.{decimal}
-use Rattle.std.specs.List.{flat_map, join_with_byte}
+use Rattle.std.proofs.Common.{◌≡◌, ℕ, ◌+◌, Bool, List, [], ◌∷◌, ◌++◌, map, sym, ap, ◌∙◌, append_assoc}
+use Rattle.std.specs.List.{flat_map}
 use Rattle.std.proofs.lemmas.Grind.{flat_map-append}
 use Rattle.std.proofs.lemmas.List.{append-nil, map-append}
-use Rattle.std.proofs.lemmas.List.FromFn.{length-map-range_with_len}
 use Rattle.pair_colours.specs.Colouring.{PairColouring, colour_at, points}
 use Rattle.pair_colours.proofs.Counts.{points_more}
 use Rattle.relation_text.specs.Orders.{column_pairs}
-use Rattle.relation_text.specs.Written.{is_in, pair_bits, row_line}
+use Rattle.relation_text.specs.Written.{is_in, pair_bits}
 
 -- the bits of the pairs that come first, and then of the pairs f 0 to f (k - 1)
 abbrev pub bits_to : PairColouring → List ℕ → List (ℕ × ℕ) → (ℕ → ℕ × ℕ) → ℕ → List Bool
@@ -42,36 +40,7 @@ column-next C set j = ap (pair_bits C set) (sym (flat_map-points_more (λ v. map
 pub row-next : (C : PairColouring) (set : List ℕ) (n i : ℕ) → bits_to C set (rows_to n i) (row_pair i) n ≡ pair_bits C set (rows_to n (i + 1))
 row-next C set n i = ap (pair_bits C set) (sym (flat_map-points_more (λ u. map (row_pair u) (points n)) i))
 
--- the numbers of a row that come first, with single spaces
-abbrev pub numbers_to : PairColouring → ℕ → ℕ → List ℕ
-numbers_to C x y = join_with_byte 32 (map (λ v. decimal (colour_at C x v)) (points y))
-
-join_with_byte_push : (c : ℕ) (xs : List (List ℕ)) (x : List ℕ) → 0 < length xs → join_with_byte c (xs ++ x ∷ []) ≡ join_with_byte c xs ++ c ∷ x
-join_with_byte_push c [] x h = absurd (omega arith)
-join_with_byte_push c (a ∷ []) x h = refl
-join_with_byte_push c (a ∷ b ∷ xs) x h =
-    ap (λ text. a ++ (c ∷ text)) (join_with_byte_push c (b ∷ xs) x (omega arith)) ∙ sym (append_assoc a (c ∷ join_with_byte c (b ∷ xs)) (c ∷ x))
-
-pub numbers_to-more : (C : PairColouring) (x y : ℕ) → 1 ≤ y → numbers_to C x (y + 1) ≡ numbers_to C x y ++ 32 ∷ decimal (colour_at C x y)
-numbers_to-more C x y h =
-    let number : ℕ → List ℕ = λ v. decimal (colour_at C x v) in
-    ap (join_with_byte 32) (ap (map number) (points_more y) ∙ map-append number (points y) (y ∷ []))
-    ∙ join_with_byte_push 32 (map number (points y)) (number y) (omega (arith, length-map-range_with_len number 0 y))
-
--- one more row
-pub rows-more : (C : PairColouring) (front old new : List ℕ) (x : ℕ) → old ≡ front ++ flat_map (row_line C) (points x) → new ≡ old ++ row_line C x → new ≡ front ++ flat_map (row_line C) (points (x + 1))
-rows-more C front old new x e f =
-    f ∙ ap (λ text. text ++ row_line C x) e ∙ append_assoc front (flat_map (row_line C) (points x)) (row_line C x)
-    ∙ ap (λ text. front ++ text) (sym (ap (flat_map (row_line C)) (points_more x) ∙ flat_map-append (row_line C) (points x) (x ∷ []) ∙ ap (λ text. flat_map (row_line C) (points x) ++ text) (append-nil (row_line C x))))
-
--- one more bit, and one more number
+-- one more bit
 pub bits_to-push : (C : PairColouring) (set : List ℕ) (first : List (ℕ × ℕ)) (f : ℕ → ℕ × ℕ) (k : ℕ) (bit : Bool) (old new : List Bool) → old ≡ bits_to C set first f k
     → bit ≡ is_in set (colour_at C (f k).0 (f k).1) → new ≡ old ++ bit ∷ [] → new ≡ bits_to C set first f (k + 1)
 bits_to-push C set first f k bit old new e is g = g ∙ ap (λ xs. xs ++ bit ∷ []) e ∙ ap (λ b. bits_to C set first f k ++ b ∷ []) is ∙ sym (bits_to-more C set first f k)
-
-pub numbers_to-push : (C : PairColouring) (x y colour : ℕ) (front old spaced new : List ℕ) → 1 ≤ y → old ≡ front ++ numbers_to C x y → spaced ≡ old ++ 32 ∷ [] → colour ≡ colour_at C x y → new ≡ spaced ++ decimal colour
-    → new ≡ front ++ numbers_to C x (y + 1)
-numbers_to-push C x y colour front old spaced new h e f g is =
-    is ∙ ap (λ text. text ++ decimal colour) (f ∙ ap (λ text. text ++ 32 ∷ []) e) ∙ ap (λ n. ((front ++ numbers_to C x y) ++ 32 ∷ []) ++ decimal n) g
-    ∙ append_assoc (front ++ numbers_to C x y) (32 ∷ []) (decimal (colour_at C x y)) ∙ append_assoc front (numbers_to C x y) (32 ∷ decimal (colour_at C x y))
-    ∙ ap (λ text. front ++ text) (sym (numbers_to-more C x y h))

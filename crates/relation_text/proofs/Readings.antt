@@ -17,7 +17,7 @@ use Rattle.relation_text.specs.Bits.{bit_in}
 use Rattle.relation_text.specs.Orders.{row_pairs, column_place}
 use Rattle.relation_text.specs.Lines.{lines_at, part_after}
 use Rattle.relation_text.specs.Relation.{IsRelationText, IsRelation, graph, digraph, matrix, IsGraphLine, IsBitText, pair_colour, bit_at}
-use Rattle.relation_text.specs.Views.{size_in, cell, HasEdges, HasArcs}
+use Rattle.relation_text.specs.LineColours.{size_in, cell, HasEdges, HasArcs}
 use Rattle.relation_text.specs.Faults.{first_fault, graph_tests, matrix_tests, relation_tests, relation_fault, size_of, bits_part}
 use Rattle.relation_text.proofs.GraphBodies.{IsSize, IsGraphBody, body-from_none, none-from_body, IsSize-from_body, IsBitText-from_body, body-from_IsBitText, bits_of, count_of, at_byte}
 use Rattle.relation_text.proofs.GraphReadings.{edge_colour, edge_bit-below, edge_bit-above, edge_bit-diagonal, IsGraphLine-from_colours, IsDigraphLine-from_colours, same_graphs, same_digraphs}

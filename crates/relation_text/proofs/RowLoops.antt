@@ -17,7 +17,7 @@ use Rattle.pair_colours.specs.declared.coloured_pairs.TheConstants.{MOST_COLOUR}
 use Rattle.relation_text.specs.declared.faults.RelationWord.{RelationWord}
 use Rattle.relation_text.specs.declared.faults.RelationWord.TheVariants.{MatrixNumber, MatrixCount, ColourTooLarge, BadByte}
 use Rattle.relation_text.specs.Lines.{end_of}
-use Rattle.relation_text.specs.Views.{no_part, cell_of}
+use Rattle.relation_text.specs.LineColours.{no_part, cell_of}
 use Rattle.relation_text.specs.Faults.{Test, first_fault, row_tests, is_row_byte}
 use Rattle.relation_text.proofs.TestLemmas.{list_any-false}
 use Rattle.relation_text.proofs.MatrixRows.{words_tests, digit_or_blank}

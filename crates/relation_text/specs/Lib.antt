@@ -5,4 +5,4 @@ pub mod Relation
 pub mod Faults
 pub mod Written
 pub mod Law
-pub mod Views
+pub mod LineColours

@@ -1,6 +1,7 @@
 -- The texts of relations that are written.
-use Rattle.std.specs.Prelude.{◌≡◌, ◌==◌, ℕ, ◌<◌, Bool, true, false, List, [], ◌∷◌, ◌++◌, map, All, codes, decimal}
-use Rattle.std.specs.List.{list_any, flat_map, join_with_byte}
+use Rattle.std.specs.Prelude.{◌≡◌, ◌==◌, ℕ, ◌<◌, Bool, true, false, List, ◌++◌, map, All, codes, decimal}
+use Rattle.std.specs.List.{list_any, flat_map}
+use Rattle.text_lines.specs.Joined.{spaced}
 use Rattle.pair_colours.specs.Colouring.{PairColouring, IsColour, colour_at, points}
 use Rattle.relation_text.specs.Bits.{size_bytes, bit_bytes}
 use Rattle.relation_text.specs.Orders.{column_pairs, row_pairs}
@@ -31,10 +32,14 @@ pub record IsEdgeSet (C : PairColouring) (set : List ℕ) : Type 0 where
   pub loopless : (x : ℕ) → x < C.size → is_in set (colour_at C x x) ≡ false
   pub symmetric : (x y : ℕ) → x < C.size → y < C.size → is_in set (colour_at C x y) ≡ true → is_in set (colour_at C y x) ≡ true
 
--- a row of a matrix: its numbers with single spaces, and a line feed
-abbrev pub row_line : PairColouring → ℕ → List ℕ
-row_line C x = join_with_byte 32 (map (λ y. decimal (colour_at C x y)) (points C.size)) ++ 10 ∷ []
+-- the colours of row x, with single spaces
+abbrev pub matrix_row : PairColouring → ℕ → List ℕ
+matrix_row C x = spaced (map (λ y. colour_at C x y) (points C.size))
+
+-- the rows of a matrix, a line each
+abbrev pub matrix_rows : PairColouring → List ℕ
+matrix_rows C = flat_map (λ x. matrix_row C x ++ codes "\n") (points C.size)
 
 -- a matrix: the head line with its number of points, and its rows
 abbrev pub matrix_of : PairColouring → List ℕ
-matrix_of C = codes "matrix " ++ decimal C.size ++ 10 ∷ [] ++ flat_map (row_line C) (points C.size)
+matrix_of C = codes "matrix " ++ decimal C.size ++ codes "\n" ++ matrix_rows C

@@ -6,7 +6,7 @@ ghost use Rattle.pair_colours.specs.declared.coloured_pairs.TheConstants.{MOST_P
 ghost use Rattle.relation_text.specs.Bits as spec;
 ghost use Rattle.relation_text.specs.Relation as relation;
 ghost use Rattle.relation_text.specs.Orders.{column_pairs};
-ghost use Rattle.relation_text.specs.Views.{HasEdges, HasArcs};
+ghost use Rattle.relation_text.specs.LineColours.{HasEdges, HasArcs};
 
 use pair_colours::{Colouring, NoMemory};
 use std::alloc::Global;

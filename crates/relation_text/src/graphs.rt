@@ -5,7 +5,7 @@ ghost use Rattle.text_lines.specs.Views.{part_of};
 ghost use Rattle.pair_colours.specs.Colouring.{IsColouring};
 ghost use Rattle.relation_text.specs.Lines.{end_of};
 ghost use Rattle.relation_text.specs.Faults as spec;
-ghost use Rattle.relation_text.specs.Views.{HasEdges, HasArcs};
+ghost use Rattle.relation_text.specs.LineColours.{HasEdges, HasArcs};
 ghost use Rattle.relation_text.specs.declared.graph_format.GraphFormat.TheVariants.{Graph, Digraph};
 
 use crate::faults::{RelationFault, text_fault};

@@ -6,7 +6,7 @@ ghost use Rattle.pair_colours.specs.Colouring.{IsColouring, colour_at};
 ghost use Rattle.pair_colours.specs.declared.coloured_pairs.TheConstants as limits;
 ghost use Rattle.relation_text.specs.Lines.{end_of};
 ghost use Rattle.relation_text.specs.Faults as spec;
-ghost use Rattle.relation_text.specs.Views.{cell, size_in};
+ghost use Rattle.relation_text.specs.LineColours.{cell, size_in};
 
 use crate::choosing::part_after;
 use crate::faults::{Fault, RelationFault, RelationWord, text_fault};

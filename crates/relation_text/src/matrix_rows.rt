@@ -9,7 +9,7 @@ ghost use Rattle.text_lines.specs.Views.{part_of};
 ghost use Rattle.pair_colours.specs.Colouring.{IsColouring, colour_at};
 ghost use Rattle.relation_text.specs.Lines.{end_of};
 ghost use Rattle.relation_text.specs.Faults as spec;
-ghost use Rattle.relation_text.specs.Views.{cell_of};
+ghost use Rattle.relation_text.specs.LineColours.{cell_of};
 
 use crate::faults::{Fault, RelationWord};
 use pair_colours::{Colouring, MOST_COLOUR};

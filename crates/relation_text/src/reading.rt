@@ -1,6 +1,7 @@
 // Relations as a whole.
 
-ghost use Rattle.std.specs.Prelude.{◌≡◌, ◌≤◌, None, IfOk, IfErr, OnOk, length};
+ghost use Rattle.std.specs.Prelude.{◌≡◌, ◌≤◌, All, None, IfOk, IfErr, OnOk, length};
+ghost use Rattle.pair_colours.specs.declared.coloured_pairs.TheConstants.{MOST_COLOUR};
 ghost use Rattle.relation_text.specs.Relation.{IsRelationText};
 ghost use Rattle.relation_text.specs.Faults.{IsFaultOf, relation_fault};
 
@@ -24,6 +25,7 @@ pub fn read_relation(alloc: Global, bytes: &[u8], line: u32) -> Result<Colouring
     requires counted { 1 ≤ line }
     requires limit { length bytes.now ≤ MOST_RELATION }
     ensures read { IfOk result (λ c. IsRelationText bytes.now line c) }
+    ensures raw { IfOk result (λ c. All (λ colour. colour ≤ MOST_COLOUR) c.colours) }
     ensures good { OnOk result (relation_fault bytes.now line ≡ None) }
     ensures fault { IfErr result (λ fault. IsFaultOf fault (relation_fault bytes.now line)) }
 {

@@ -1,15 +1,14 @@
-ghost use Rattle.std.specs.Prelude.{◌≤◌, All, IfOk};
-ghost use Rattle.pair_colours.specs.declared.coloured_pairs.TheConstants.{MOST_COLOUR};
-
 use crate::*;
 use pair_colours::Colouring;
 use std::process::Abort;
 use std::test::Fail;
 
 // What is read at a line of a text.
-fn read(rt: &(impl Abort + AllocGlobal), text: &[u8], line: u32) -> Result<Colouring, RelationFault>
-    ensures { IfOk result (λ relation. All (λ colour. colour ≤ MOST_COLOUR) relation.colours) }
-{
+fn read(
+    rt: &(impl Abort + AllocGlobal),
+    text: &[u8],
+    line: u32,
+) -> Result<Colouring, RelationFault> {
     assert!(rt; line >= 1 && text.len() <= 4_194_304);
     read_relation(rt.alloc(), text, line)
 }

@@ -1,7 +1,6 @@
 // The writers of relations.
 
-ghost use Rattle.std.specs.Prelude.{◌≡◌, ◌<◌, ◌≤◌, ◌++◌, All, IfOk, OnOk, IsErrOf, decimal};
-ghost use Rattle.pair_colours.specs.declared.coloured_pairs.TheConstants as limits;
+ghost use Rattle.std.specs.Prelude.{◌≡◌, ◌<◌, ◌++◌, IfOk, OnOk, IsErrOf};
 ghost use Rattle.relation_text.specs.Orders.{column_pairs, row_pairs};
 ghost use Rattle.relation_text.specs.Written as spec;
 
@@ -9,7 +8,8 @@ use crate::edge_sets::{has_pair, is_colour_set, is_edge_set};
 use crate::encoding::{push_bits, push_size};
 use crate::faults::WriteFault;
 use pair_colours::{Colouring, NoMemory};
-use std::alloc::Global;
+use std::alloc::{AllocError, Global};
+use text_lines::Text;
 
 /// The graph6 text, without a line end, of the graph whose edges are the pairs with a colour in the
 /// set.
@@ -80,40 +80,36 @@ fn row_bits(alloc: Global, relation: &Colouring, set: &[u32]) -> Result<Vec<bool
     Ok(bits)
 }
 
-/// The matrix text: the head line and the rows, each number followed by one space or by the line
-/// end.
+/// The matrix text: the head line, and the rows of `put_rows`.
 pub fn write_matrix(alloc: Global, relation: &Colouring) -> Result<Vec<u8>, NoMemory>
-    requires { All (λ colour. colour ≤ limits.MOST_COLOUR) relation.now.colours }
     ensures { IfOk result (λ text. text.items ≡ spec.matrix_of relation.now) }
 {
-    let mut text = Vec::from_slice(alloc, b"matrix ")?;
-    push_number(&mut text, relation.size())?;
-    text.push(b'\n')?;
-    for x in 0..relation.size() {
-        push_row(&mut text, relation, x)?;
-    }
-    Ok(text)
+    let mut text = Text::new(alloc);
+    text.put_field(b"matrix ", relation.size())?;
+    text.put(b"\n")?;
+    put_rows(&mut text, relation)?;
+    Ok(text.into_bytes())
 }
 
-// Puts row x of a matrix at the end.
-fn push_row(text: &mut Vec<u8>, relation: &Colouring, x: u32) -> Result<(), NoMemory>
-    requires { x < relation.now.size }
-    ensures { OnOk result (text.new.items ≡ text.old.items ++ spec.row_line relation.now x) }
+/// Puts the rows of a matrix at the end of a text, a line each: its numbers, each followed by one
+/// space or by the line end.
+pub fn put_rows(text: &mut Text, matrix: &Colouring) -> Result<(), NoMemory>
+    ensures { OnOk result (text.new ≡ text.old ++ spec.matrix_rows matrix.now) }
 {
-    push_number(text, relation.get(x, 0))?;
-    for y in 1..relation.size() {
-        text.push(b' ')?;
-        push_number(text, relation.get(x, y))?;
+    for x in 0..matrix.size() {
+        put_row(text, matrix, x)?;
+        text.put(b"\n")?;
     }
-    text.push(b'\n')?;
     Ok(())
 }
 
-// Puts a number at the end, in decimal digits.
-fn push_number(text: &mut Vec<u8>, number: u32) -> Result<(), NoMemory>
-    ensures { OnOk result (text.new.items ≡ text.old.items ++ decimal number) }
+// Puts row x of a matrix at the end, without its line end.
+fn put_row(text: &mut Text, matrix: &Colouring, x: u32) -> Result<(), AllocError>
+    requires { x < matrix.now.size }
+    ensures { OnOk result (text.new ≡ text.old ++ spec.matrix_row matrix.now x) }
 {
-    let mut buffer = itoa::Buffer::new();
-    text.extend_from_slice(buffer.format(number).as_bytes())?;
+    for y in 0..matrix.size() {
+        text.put_next(b' ', y as usize, matrix.get(x, y))?;
+    }
     Ok(())
 }

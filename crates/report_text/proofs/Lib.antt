@@ -1,3 +1,3 @@
-pub mod Rows
+pub mod ClassLines
 pub mod Rising
 pub mod ConstantLists

@@ -2,7 +2,7 @@
 use Rattle.std.specs.Prelude.{ℕ, List, [], ◌∷◌, ◌++◌, codes}
 use Rattle.drg_arrays.specs.declared.answer.ArrayAnswer.{ArrayAnswer}
 use Rattle.drg_arrays.specs.declared.answer.ArrayAnswer.TheVariants.{Array, Disconnected, Irregular}
-use Rattle.report_text.specs.Joined.{joined, comma, spaced}
+use Rattle.text_lines.specs.Joined.{joined, comma, spaced}
 
 -- an intersection array as it is usually written, {b_0,..,b_(d-1);c_1,..,c_d}; or the pairs that show that there is none
 abbrev pub array_text_of : ArrayAnswer → List ℕ

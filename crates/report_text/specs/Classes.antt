@@ -5,7 +5,7 @@ use Rattle.pair_colours.specs.Colouring.{PairColouring, points}
 use Rattle.pair_colours.specs.Naming.{rank_of, transpose_of}
 use Rattle.pair_colours.specs.IntersectionNumber.{pair_of_class}
 use Rattle.struct_consts.specs.ClassData.{class_size, valency_of, fibres_of}
-use Rattle.report_text.specs.Joined.{spaced}
+use Rattle.text_lines.specs.Joined.{spaced}
 
 -- two numbers with a space between them
 abbrev pub spaced_pair : ℕ × ℕ → List ℕ

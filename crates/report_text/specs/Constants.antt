@@ -5,7 +5,7 @@ use Rattle.pair_colours.specs.Colouring.{PairColouring, points}
 use Rattle.pair_colours.specs.Naming.{rank_of}
 use Rattle.pair_colours.specs.IntersectionNumber.{intersection_number}
 use Rattle.triangle_count.specs.declared.rows.Entry.{Entry}
-use Rattle.report_text.specs.Joined.{spaced}
+use Rattle.text_lines.specs.Joined.{spaced}
 
 -- all triples (k, i, j) of r classes: by k, then i, then j
 abbrev pub triples : ℕ → List (ℕ × ℕ × ℕ)

@@ -1,4 +1,3 @@
-pub mod Joined
 pub mod EditLines
 pub mod Matrices
 pub mod Graphs

@@ -1,19 +1,10 @@
 -- Answers that show a matrix.
-use Rattle.std.specs.Prelude.{ℕ, List, ◌++◌, map, codes, decimal}
-use Rattle.std.specs.List.{flat_map}
-use Rattle.pair_colours.specs.Colouring.{PairColouring, colour_at, points}
+use Rattle.std.specs.Prelude.{ℕ, List, ◌++◌, codes, decimal}
+use Rattle.pair_colours.specs.Colouring.{PairColouring}
 use Rattle.pair_colours.specs.Naming.{rank_of}
 use Rattle.report_text.specs.declared.matrices.MatrixHead.{MatrixHead}
 use Rattle.report_text.specs.declared.matrices.MatrixHead.TheVariants.{Show, Raw}
-use Rattle.report_text.specs.Joined.{spaced}
-
--- the colours of row x
-abbrev pub matrix_row : PairColouring → ℕ → List ℕ
-matrix_row K x = spaced (map (λ y. colour_at K x y) (points K.size))
-
--- the rows of a matrix, a line each
-abbrev pub matrix_rows : PairColouring → List ℕ
-matrix_rows K = flat_map (λ x. matrix_row K x ++ codes "\n") (points K.size)
+use Rattle.relation_text.specs.Written.{matrix_rows}
 
 -- the head line: which matrix it is, how many points it has and how many colours are in use
 abbrev pub head_line : MatrixHead → ℕ → ℕ → List ℕ

@@ -3,10 +3,10 @@
 ghost use Rattle.std.specs.Prelude.{◌≡◌, ◌++◌, IfOk, OnOk};
 ghost use Rattle.report_text.specs.Arrays.{array_text_of};
 
-use crate::growing_text::Text;
 use drg_arrays::ArrayAnswer;
 use pair_colours::NoMemory;
-use std::alloc::Global;
+use std::alloc::{AllocError, Global};
+use text_lines::Text;
 
 /// The answer on the graph of a set of colours: its intersection array, the first pair that no walk
 /// joins, or the first pair whose numbers differ from those of another at its distance.
@@ -18,7 +18,7 @@ pub fn array_text(alloc: Global, answer: &ArrayAnswer) -> Result<Vec<u8>, NoMemo
     Ok(text.into_bytes())
 }
 
-fn put_answer(text: &mut Text, answer: &ArrayAnswer) -> Result<(), NoMemory>
+fn put_answer(text: &mut Text, answer: &ArrayAnswer) -> Result<(), AllocError>
     ensures { OnOk result (text.new ≡ text.old ++ array_text_of answer.now) }
 {
     match answer {

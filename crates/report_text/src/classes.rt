@@ -6,10 +6,10 @@ ghost use Rattle.pair_colours.specs.Colouring.{points};
 ghost use Rattle.pair_colours.specs.Naming.{rank_of};
 ghost use Rattle.report_text.specs.Classes.{class_line, classes_text_of, spaced_pair};
 
-use crate::growing_text::Text;
 use pair_colours::NoMemory;
-use std::alloc::Global;
+use std::alloc::{AllocError, Global};
 use struct_consts::Constants;
+use text_lines::Text;
 
 /// The answer that lists the classes: their number, and then a line for each class with its size,
 /// its valency, the class of its turned pairs, its first pair and the fibres that it joins.
@@ -24,7 +24,7 @@ pub fn classes_text(alloc: Global, k: &Constants) -> Result<Vec<u8>, NoMemory>
 }
 
 // Puts the line of each class at the end.
-fn put_classes(text: &mut Text, k: &Constants) -> Result<(), NoMemory>
+fn put_classes(text: &mut Text, k: &Constants) -> Result<(), AllocError>
     ensures { OnOk result (text.new ≡ text.old ++ flat_map (class_line k.now) (points (rank_of k.now))) }
 {
     for class in 0..k.rank() {
@@ -34,7 +34,7 @@ fn put_classes(text: &mut Text, k: &Constants) -> Result<(), NoMemory>
 }
 
 // Puts the line of a class at the end.
-fn put_class(text: &mut Text, k: &Constants, class: u32) -> Result<(), NoMemory>
+fn put_class(text: &mut Text, k: &Constants, class: u32) -> Result<(), AllocError>
     requires { class < rank_of k.now }
     ensures { OnOk result (text.new ≡ text.old ++ class_line k.now class) }
 {
@@ -48,7 +48,7 @@ fn put_class(text: &mut Text, k: &Constants, class: u32) -> Result<(), NoMemory>
 }
 
 // Puts a word and the two numbers after it at the end.
-fn put_pair(text: &mut Text, word: &[u8], pair: (u32, u32)) -> Result<(), NoMemory>
+fn put_pair(text: &mut Text, word: &[u8], pair: (u32, u32)) -> Result<(), AllocError>
     ensures { OnOk result (text.new ≡ text.old ++ word.now ++ spaced_pair pair) }
 {
     let (first, second) = pair;

@@ -5,10 +5,10 @@ ghost use Rattle.std.specs.List.{flat_map};
 ghost use Rattle.pair_colours.specs.Naming.{rank_of};
 ghost use Rattle.report_text.specs.Constants.{nonzero_triples, constant_line, constants_text_of, entry_line};
 
-use crate::growing_text::Text;
 use pair_colours::NoMemory;
-use std::alloc::Global;
+use std::alloc::{AllocError, Global};
 use struct_consts::{Constants, Entry};
+use text_lines::Text;
 
 /// The answer that lists the structure constants that are not 0: the number of classes and of such
 /// constants, and then a line `I J K P` for each constant P = p(I, J; K), by K, then I, then J.
@@ -36,7 +36,7 @@ fn entry_count(k: &Constants) -> u64
 }
 
 // Puts the lines of all classes at the end.
-fn put_rows(text: &mut Text, k: &Constants) -> Result<(), NoMemory>
+fn put_rows(text: &mut Text, k: &Constants) -> Result<(), AllocError>
     ensures { OnOk result (text.new ≡ text.old ++ flat_map (constant_line k.now) (nonzero_triples k.now)) }
 {
     for class in 0..k.rank() {
@@ -46,7 +46,7 @@ fn put_rows(text: &mut Text, k: &Constants) -> Result<(), NoMemory>
 }
 
 // Puts the lines of the row of a class at the end.
-fn put_row(text: &mut Text, class: u32, row: &[Entry]) -> Result<(), NoMemory>
+fn put_row(text: &mut Text, class: u32, row: &[Entry]) -> Result<(), AllocError>
     ensures { OnOk result (text.new ≡ text.old ++ flat_map (entry_line class) row.now) }
 {
     for entry in row {

@@ -3,9 +3,9 @@
 ghost use Rattle.std.specs.Prelude.{◌≡◌, IfOk};
 ghost use Rattle.report_text.specs.EditLines.{ok_text, refused_text_of};
 
-use crate::growing_text::Text;
 use pair_colours::NoMemory;
 use std::alloc::Global;
+use text_lines::Text;
 
 /// The answer of an accepted edit, an undo or a redo: the size and the rank of the closure after it.
 pub fn edit_text(alloc: Global, points: u32, rank: u32) -> Result<Vec<u8>, NoMemory>

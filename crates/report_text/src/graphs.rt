@@ -3,9 +3,9 @@
 ghost use Rattle.std.specs.Prelude.{◌≡◌, IfOk};
 ghost use Rattle.report_text.specs.Graphs.{format_of, graph_line};
 
-use crate::growing_text::Text;
 use pair_colours::NoMemory;
 use std::alloc::Global;
+use text_lines::Text;
 
 /// The format of a graph's text, told by the first word of the answer.
 #[derive(Clone, Copy, Debug, PartialEq, Eq)]

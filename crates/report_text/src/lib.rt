@@ -6,7 +6,6 @@
 //! * `test_lines`: the answer of the five tests.
 //! * `arrays`: the answers on distance-regular graphs.
 //! * `graphs`: the answers that show a graph of classes.
-//! * `growing_text`: `Text`, the bytes that every answer is put together in.
 //!
 //! Each text stands in `specs/` as a function of the mathematical values that the call is given;
 //! docs/FORMATS.md has them in words. Every line ends with one LF byte, and single spaces part the
@@ -18,7 +17,6 @@ mod classes;
 mod constants;
 mod edit_lines;
 mod graphs;
-mod growing_text;
 mod matrices;
 mod test_lines;
 #[cfg(test)]

@@ -1,11 +1,12 @@
 //! Answers that show a matrix of colours.
 
-ghost use Rattle.std.specs.Prelude.{◌≡◌, ◌++◌, ◌<◌, IfOk, OnOk};
-ghost use Rattle.report_text.specs.Matrices.{head_line, matrix_row, matrix_rows, matrix_text_of};
+ghost use Rattle.std.specs.Prelude.{◌≡◌, ◌++◌, IfOk, OnOk};
+ghost use Rattle.report_text.specs.Matrices.{head_line, matrix_text_of};
 
-use crate::growing_text::Text;
 use pair_colours::{Colouring, NoMemory};
-use std::alloc::Global;
+use relation_text::put_rows;
+use std::alloc::{AllocError, Global};
+use text_lines::Text;
 
 /// Which matrix an answer shows, told by the first word of its head line.
 #[derive(Clone, Copy, Debug, PartialEq, Eq)]
@@ -34,7 +35,7 @@ fn room_for(matrix: &Colouring) -> usize {
     64 + 6 * size * size
 }
 
-fn put_head(text: &mut Text, head: MatrixHead, points: u32, colours: u32) -> Result<(), NoMemory>
+fn put_head(text: &mut Text, head: MatrixHead, points: u32, colours: u32) -> Result<(), AllocError>
     ensures { OnOk result (text.new ≡ text.old ++ head_line head points colours) }
 {
     match head {
@@ -48,26 +49,4 @@ fn put_head(text: &mut Text, head: MatrixHead, points: u32, colours: u32) -> Res
         }
     }
     text.put(b"\n")
-}
-
-// Puts the rows of a matrix at the end, a line each.
-fn put_rows(text: &mut Text, matrix: &Colouring) -> Result<(), NoMemory>
-    ensures { OnOk result (text.new ≡ text.old ++ matrix_rows matrix.now) }
-{
-    for x in 0..matrix.size() {
-        put_row(text, matrix, x)?;
-        text.put(b"\n")?;
-    }
-    Ok(())
-}
-
-// Puts row x of a matrix at the end, without its line end.
-fn put_row(text: &mut Text, matrix: &Colouring, x: u32) -> Result<(), NoMemory>
-    requires { x < matrix.now.size }
-    ensures { OnOk result (text.new ≡ text.old ++ matrix_row matrix.now x) }
-{
-    for y in 0..matrix.size() {
-        text.put_next(b' ', y as usize, matrix.get(x, y))?;
-    }
-    Ok(())
 }

@@ -3,10 +3,10 @@
 ghost use Rattle.std.specs.Prelude.{◌≡◌, ◌++◌, IfOk, OnOk};
 ghost use Rattle.report_text.specs.Tests.{tests_text_of, yes_or_no};
 
-use crate::growing_text::Text;
 use pair_colours::NoMemory;
 use scheme_tests::SchemeTests;
-use std::alloc::Global;
+use std::alloc::{AllocError, Global};
+use text_lines::Text;
 
 /// The answer that names each of the five tests and says whether it holds.
 pub fn tests_text(alloc: Global, tests: &SchemeTests) -> Result<Vec<u8>, NoMemory>
@@ -23,7 +23,7 @@ pub fn tests_text(alloc: Global, tests: &SchemeTests) -> Result<Vec<u8>, NoMemor
 }
 
 // Puts the name of a test at the end, and whether it holds.
-fn put_test(text: &mut Text, name: &[u8], holds: bool) -> Result<(), NoMemory>
+fn put_test(text: &mut Text, name: &[u8], holds: bool) -> Result<(), AllocError>
     ensures { OnOk result (text.new ≡ text.old ++ name.now ++ yes_or_no holds) }
 {
     text.put(name)?;

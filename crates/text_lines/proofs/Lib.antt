@@ -5,3 +5,4 @@ pub mod Within
 pub mod Numbers
 pub mod WordBytes
 pub mod OneLine
+pub mod JoinedNumbers

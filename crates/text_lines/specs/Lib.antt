@@ -3,3 +3,4 @@ pub mod Lines
 pub mod Words
 pub mod Number
 pub mod Views
+pub mod Joined

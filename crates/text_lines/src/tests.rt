@@ -1,4 +1,5 @@
 use crate::*;
+use std::test::Fail;
 
 #[test]
 fn lines_are_cut(rt: HostRuntime) {
@@ -47,4 +48,19 @@ fn numbers_are_read(rt: HostRuntime) {
     for (word, number) in numbers {
         assert_eq!(rt; read_number(word), number);
     }
+}
+
+#[test]
+fn texts_are_put_together(rt: HostRuntime) -> Result<(), Fail> {
+    let mut text = Text::with_room(rt.alloc(), 4)?;
+    text.put_field(b"points ", 128)?;
+    text.put(b" sum ")?;
+    text.put_number(u64::MAX)?;
+    text.put_line(b"\nrow ", &[0, 65_535, 7])?;
+    text.put_numbers(b',', &[4_294_967_295])?;
+    text.put_next(b',', 1, 0)?;
+    text.put_numbers(b';', &[])?;
+    let want = b"points 128 sum 18446744073709551615\nrow 0 65535 7\n4294967295,0";
+    assert_eq!(rt; text.into_bytes().as_slice(), want.as_slice());
+    Ok(())
 }

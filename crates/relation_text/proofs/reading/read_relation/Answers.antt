@@ -1,4 +1,10 @@
+use Rattle.std.proofs.Common.{◌≤◌}
+use Rattle.std.specs.Prelude.{All}
+use Rattle.std.proofs.lemmas.Result.{IfOk-weaker}
 use Rattle.text_lines.specs.Views.{part_of}
+use Rattle.pair_colours.specs.declared.coloured_pairs.TheConstants.{MOST_COLOUR}
+use Rattle.relation_text.specs.Relation.{IsRelationText}
+use Rattle.relation_text.proofs.RawColours.{raw_colours}
 use Rattle.relation_text.proofs.Readings.{graph_read, digraph_read, matrix_read}
 use Rattle.relation_text.proofs.reading.read_relation.Goals as goal
 
@@ -16,3 +22,15 @@ pub returns-else-starts_with-2-clause-read : goal.returns-else-starts_with-2-cla
 returns-else-starts_with-2-clause-read c =
     graph_read c.args.bytes.now c.args.line (part_of c.in-Some.chosen) c.chosen_line.new.left c.read_graph.result c.in-Some.ensures.chosen
     c.read_graph.ensures.good c.read_graph.ensures.colouring c.read_graph.ensures.points c.read_graph.ensures.edges
+
+pub returns-then-starts_with-clause-raw : goal.returns-then-starts_with-clause-raw
+returns-then-starts_with-clause-raw c =
+    IfOk-weaker c.read_matrix.result (IsRelationText c.args.bytes.now c.args.line) (λ C. All (λ colour. colour ≤ MOST_COLOUR) C.colours) (raw_colours c.args.bytes.now c.args.line) (returns-then-starts_with-clause-read c)
+
+pub returns-then-starts_with-2-clause-raw : goal.returns-then-starts_with-2-clause-raw
+returns-then-starts_with-2-clause-raw c =
+    IfOk-weaker c.read_digraph.result (IsRelationText c.args.bytes.now c.args.line) (λ C. All (λ colour. colour ≤ MOST_COLOUR) C.colours) (raw_colours c.args.bytes.now c.args.line) (returns-then-starts_with-2-clause-read c)
+
+pub returns-else-starts_with-2-clause-raw : goal.returns-else-starts_with-2-clause-raw
+returns-else-starts_with-2-clause-raw c =
+    IfOk-weaker c.read_graph.result (IsRelationText c.args.bytes.now c.args.line) (λ C. All (λ colour. colour ≤ MOST_COLOUR) C.colours) (raw_colours c.args.bytes.now c.args.line) (returns-else-starts_with-2-clause-read c)

@@ -4,7 +4,7 @@ use Rattle.std.proofs.lemmas.Result.{on_ok_weaker}
 use Rattle.struct_consts.specs.ClassData.{class_size, valency_of, fibres_of}
 use Rattle.pair_colours.specs.IntersectionNumber.{pair_of_class}
 use Rattle.report_text.specs.Classes.{spaced_pair, transposed_class}
-use Rattle.report_text.proofs.Rows.{class_pieces}
+use Rattle.report_text.proofs.ClassLines.{class_pieces}
 use Rattle.report_text.proofs.classes.put_class.Goals as goal
 
 pub returns : goal.returns

@@ -1,16 +1,17 @@
-// The bytes of an answer, which grow at their end.
+// Texts that are put together.
 
 ghost use Rattle.std.specs.Prelude.{◌≡◌, ◌++◌, ℕ, List, [], codes, decimal, OnOk, IfOk};
-ghost use Rattle.report_text.specs.Joined.{joined, spaced, separator_before};
+ghost use Rattle.text_lines.specs.Joined.{joined, spaced, separator_before};
 
 use itoa::{Buffer, Integer};
-use pair_colours::NoMemory;
-use std::alloc::Global;
+use std::alloc::{AllocError, Global};
 use std::marker::Model;
 
-// A text that is being made. After want of memory it is not used again.
+/// A text that is being put together, seen as its bytes: each call puts some at the end.
+///
+/// The one error is want of memory. What a text holds after it is not said, so it is not used again.
 #[derive(Drop)]
-pub(crate) struct Text {
+pub struct Text {
     bytes: Vec<u8>,
     digits: Buffer,
 }
@@ -22,8 +23,8 @@ impl Model for Text {
 }
 
 impl Text {
-    // No bytes yet.
-    pub(crate) fn new(alloc: Global) -> Text
+    /// No bytes yet.
+    pub fn new(alloc: Global) -> Text
         ensures { result ≡ [] }
     {
         Text {
@@ -32,8 +33,8 @@ impl Text {
         }
     }
 
-    // No bytes yet, with memory for so many.
-    pub(crate) fn with_room(alloc: Global, room: usize) -> Result<Text, NoMemory>
+    /// No bytes yet, with memory for `room` bytes.
+    pub fn with_room(alloc: Global, room: usize) -> Result<Text, AllocError>
         ensures { IfOk result (λ text. text ≡ []) }
     {
         Ok(Text {
@@ -42,38 +43,32 @@ impl Text {
         })
     }
 
-    // Puts bytes at the end.
-    pub(crate) fn put(&mut self, bytes: &[u8]) -> Result<(), NoMemory>
+    /// Puts bytes at the end.
+    pub fn put(&mut self, bytes: &[u8]) -> Result<(), AllocError>
         ensures { OnOk result (self.new ≡ self.old ++ bytes.now) }
     {
-        self.bytes.extend_from_slice(bytes)?;
-        Ok(())
+        self.bytes.extend_from_slice(bytes)
     }
 
-    // Puts a number at the end.
-    pub(crate) fn put_number<I: Integer>(&mut self, number: I) -> Result<(), NoMemory>
+    /// Puts a number at the end, in decimal digits.
+    pub fn put_number<I: Integer>(&mut self, number: I) -> Result<(), AllocError>
         ensures { OnOk result (self.new ≡ self.old ++ I.text number) }
     {
         let digits = self.digits.format(number);
-        self.bytes.extend_from_slice(digits.as_bytes())?;
-        Ok(())
+        self.bytes.extend_from_slice(digits.as_bytes())
     }
 
-    // Puts a word and the number after it at the end.
-    pub(crate) fn put_field(&mut self, word: &[u8], number: u32) -> Result<(), NoMemory>
+    /// Puts a word and the number after it at the end. The word brings its own blanks.
+    pub fn put_field(&mut self, word: &[u8], number: u32) -> Result<(), AllocError>
         ensures { OnOk result (self.new ≡ self.old ++ word.now ++ decimal number) }
     {
         self.put(word)?;
         self.put_number(number)
     }
 
-    // Puts the number at a place of a list at the end: after the separator, but for the first.
-    pub(crate) fn put_next(
-        &mut self,
-        separator: u8,
-        place: usize,
-        number: u32,
-    ) -> Result<(), NoMemory>
+    /// Puts the number at a place of a list at the end, places counted from 0: after the separator,
+    /// but for the first.
+    pub fn put_next(&mut self, separator: u8, place: usize, number: u32) -> Result<(), AllocError>
         ensures { OnOk result (self.new ≡ self.old ++ separator_before separator place ++ decimal number) }
     {
         if place > 0 {
@@ -82,8 +77,8 @@ impl Text {
         self.put_number(number)
     }
 
-    // Puts numbers at the end, with the separator between each two.
-    pub(crate) fn put_numbers(&mut self, separator: u8, numbers: &[u32]) -> Result<(), NoMemory>
+    /// Puts numbers at the end, with the separator between each two.
+    pub fn put_numbers(&mut self, separator: u8, numbers: &[u32]) -> Result<(), AllocError>
         ensures { OnOk result (self.new ≡ self.old ++ joined separator numbers.now) }
     {
         for (place, number) in numbers.iter().enumerate() {
@@ -92,8 +87,9 @@ impl Text {
         Ok(())
     }
 
-    // Puts a line at the end: words, and then numbers with single spaces.
-    pub(crate) fn put_line(&mut self, words: &[u8], numbers: &[u32]) -> Result<(), NoMemory>
+    /// Puts a line at the end: words, and then numbers with single spaces. The words bring their own
+    /// blanks.
+    pub fn put_line(&mut self, words: &[u8], numbers: &[u32]) -> Result<(), AllocError>
         ensures { OnOk result (self.new ≡ self.old ++ (words.now ++ spaced numbers.now ++ codes "\n")) }
     {
         self.put(words)?;
@@ -101,8 +97,8 @@ impl Text {
         self.put(b"\n")
     }
 
-    // The bytes.
-    pub(crate) fn into_bytes(self) -> Vec<u8>
+    /// The bytes.
+    pub fn into_bytes(self) -> Vec<u8>
         ensures { result.items ≡ self }
     {
         self.bytes

@@ -1,8 +1,8 @@
 use Rattle.std.proofs.Common.{◌++◌, ap, ◌∙◌, append_assoc}
 use Rattle.std.specs.Prelude.{codes}
-use Rattle.report_text.specs.Matrices.{matrix_row}
-use Rattle.report_text.proofs.Rows.{lines_more}
-use Rattle.report_text.proofs.matrices.put_rows.Goals as goal
+use Rattle.relation_text.specs.Written.{matrix_row}
+use Rattle.relation_text.proofs.RowWrites.{lines_more}
+use Rattle.relation_text.proofs.writers.put_rows.Goals as goal
 
 pub loop-x-preserved : goal.loop-x-preserved
 loop-x-preserved c =

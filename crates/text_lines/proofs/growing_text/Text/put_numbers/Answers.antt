@@ -1,8 +1,8 @@
 use Rattle.std.proofs.Common.{◌++◌, take, get_or, sym, ap, ◌∙◌, arith}
 use Rattle.std.proofs.lemmas.List.{length-take, take_more}
-use Rattle.report_text.specs.Joined.{joined}
-use Rattle.report_text.proofs.Rows.{numbers_more}
-use Rattle.report_text.proofs.growing_text.Text.put_numbers.Goals as goal
+use Rattle.text_lines.specs.Joined.{joined}
+use Rattle.text_lines.proofs.JoinedNumbers.{numbers_more}
+use Rattle.text_lines.proofs.growing_text.Text.put_numbers.Goals as goal
 
 pub loop-place-preserved : goal.loop-place-preserved
 loop-place-preserved c =

@@ -1,7 +1,7 @@
 use Rattle.pair_colours.specs.Colouring.{colour_at}
-use Rattle.report_text.specs.Joined.{space}
-use Rattle.report_text.proofs.Rows.{row_more}
-use Rattle.report_text.proofs.matrices.put_row.Goals as goal
+use Rattle.text_lines.specs.Joined.{space}
+use Rattle.relation_text.proofs.RowWrites.{row_more}
+use Rattle.relation_text.proofs.writers.put_row.Goals as goal
 
 pub loop-y-preserved : goal.loop-y-preserved
 loop-y-preserved c =

@@ -1,6 +1,7 @@
 -- A relation that is read has raw colours.
 use Rattle.std.proofs.Common.{◌==◌, ◌<◌, ◌≤◌, ◌+◌, ◌*◌, ◌/◌, ◌%◌, ℕ, Bool, true, false, List, length, get_or, subst, arith, if◌then◌else◌}
-use Rattle.std.specs.Prelude.{All}
+use Rattle.std.specs.Prelude.{All, IfOk, Result}
+use Rattle.std.proofs.lemmas.Result.{IfOk-weaker}
 use Rattle.std.proofs.lemmas.Option.{slice_get-get_or}
 use Rattle.std.proofs.lemmas.List.Elements.{All-from_get_or}
 use Rattle.text_lines.specs.Part.{Part}
@@ -36,3 +37,6 @@ raw_colours text line C h = All-from_get_or (λ colour. colour ≤ MOST_COLOUR) 
         let inside : p < C.size * C.size = subst (λ (n : ℕ). p < n) h.colouring.has_pairs l in
         subst (λ (c : ℕ). c ≤ MOST_COLOUR) (at_place C p)
         (small_pair h.chosen h.rows C h.relation (p / C.size) (p % C.size) (row_below C.size p h.colouring.has_points inside) (column_below C.size p h.colouring.has_points))
+
+pub raw-read : {E : Type 0} (text : List ℕ) (line : ℕ) (result : Result PairColouring E) → IfOk result (IsRelationText text line) → IfOk result (λ C. All (λ colour. colour ≤ MOST_COLOUR) C.colours)
+raw-read text line result read = IfOk-weaker result (IsRelationText text line) (λ C. All (λ colour. colour ≤ MOST_COLOUR) C.colours) (raw_colours text line) read

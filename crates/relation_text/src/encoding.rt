@@ -1,7 +1,7 @@
 // Sizes and bits as printable bytes.
 
 ghost use Rattle.std.specs.Prelude.{◌≡◌, ◌+◌, ◌*◌, ◌^◌, ◌<◌, ◌≤◌, ◌++◌, length, OnOk};
-ghost use Rattle.pair_colours.specs.declared.coloured_pairs.TheConstants as limits;
+ghost use Rattle.pair_colours.specs.declared.coloured_pairs.TheConstants.{MOST_POINTS};
 ghost use Rattle.relation_text.specs.Bits as spec;
 
 use pair_colours::NoMemory;
@@ -9,7 +9,7 @@ use std::alloc::Global;
 
 // Puts the bytes of a size at the end.
 pub(crate) fn push_size(text: &mut Vec<u8>, size: u32) -> Result<(), NoMemory>
-    requires { size ≤ limits.MOST_POINTS }
+    requires { size ≤ MOST_POINTS }
     ensures { OnOk result (text.new.items ≡ text.old.items ++ spec.size_bytes size) }
 {
     let digit = (size % 64) as u8 + 63;

@@ -7,7 +7,6 @@ ghost use Rattle.relation_text.specs.Bits as encoding;
 ghost use Rattle.relation_text.specs.Orders.{pairs_of};
 ghost use Rattle.relation_text.specs.Lines.{end_of};
 ghost use Rattle.relation_text.specs.Faults as spec;
-ghost use Rattle.pair_colours.specs.declared.coloured_pairs.TheConstants as limits;
 
 use crate::faults::{Fault, RelationWord};
 use crate::graph_bits::bit_in;
@@ -115,7 +114,7 @@ pub(crate) fn size_len(size: usize) -> usize
 
 // How many bits the format has for a size.
 fn bit_count(format: GraphFormat, size: usize) -> usize
-    requires { size ≤ limits.MOST_POINTS }
+    requires { size ≤ MOST_POINTS }
     ensures count { result ≡ length (pairs_of format size) }
     ensures few { result ≤ 16384 }
 {

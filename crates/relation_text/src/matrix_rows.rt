@@ -8,7 +8,7 @@ ghost use Rattle.text_lines.specs.Number as form;
 ghost use Rattle.text_lines.specs.Views.{part_of};
 ghost use Rattle.pair_colours.specs.Colouring.{IsColouring, colour_at};
 ghost use Rattle.relation_text.specs.Lines.{end_of};
-ghost use Rattle.relation_text.specs.Faults as spec;
+ghost use Rattle.relation_text.specs.Faults.{first_fault, is_row_byte, row_tests};
 ghost use Rattle.relation_text.specs.LineColours.{cell_of};
 
 use crate::faults::{Fault, RelationWord};
@@ -19,7 +19,7 @@ use text_lines::{TextPart, is_blank, words};
 pub(crate) fn read_row(colouring: &mut Colouring, x: u32, row: TextPart<'_>) -> Option<Fault>
     requires row { x < colouring.old.size }
     requires colouring { IsColouring colouring.old }
-    ensures fault { result ≡ spec.first_fault (spec.row_tests 0 colouring.old.size (Some (part_of row.entry))) }
+    ensures fault { result ≡ first_fault (row_tests 0 colouring.old.size (Some (part_of row.entry))) }
     ensures within { IfSome result (λ fault. fault.1 ≤ end_of (part_of row.entry)) }
     ensures colouring { IsColouring colouring.new }
     ensures points { colouring.new.size ≡ colouring.old.size }
@@ -48,9 +48,9 @@ pub(crate) fn read_row(colouring: &mut Colouring, x: u32, row: TextPart<'_>) -> 
 
 // The place of the first byte that is neither a digit nor a blank.
 fn other_byte(row: &[u8]) -> Option<usize>
-    ensures none { IfNone result (list_any (λ b. not (spec.is_row_byte b)) row.now ≡ false) }
-    ensures some { IfSome result (λ _. list_any (λ b. not (spec.is_row_byte b)) row.now ≡ true) }
-    ensures first { IfSome result (λ place. place ≡ position_or_len (λ b. not (spec.is_row_byte b)) row.now) }
+    ensures none { IfNone result (list_any (λ b. not (is_row_byte b)) row.now ≡ false) }
+    ensures some { IfSome result (λ _. list_any (λ b. not (is_row_byte b)) row.now ≡ true) }
+    ensures first { IfSome result (λ place. place ≡ position_or_len (λ b. not (is_row_byte b)) row.now) }
     ensures within { IfSome result (λ place. place < length row.now) }
 {
     row.iter()

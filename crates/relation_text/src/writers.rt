@@ -2,7 +2,7 @@
 
 ghost use Rattle.std.specs.Prelude.{◌≡◌, ◌<◌, ◌++◌, IfOk, OnOk, IsErrOf};
 ghost use Rattle.relation_text.specs.Orders.{column_pairs, row_pairs};
-ghost use Rattle.relation_text.specs.Written as spec;
+ghost use Rattle.relation_text.specs.Written.{IsColourSet, IsEdgeSet, digraph6_of, graph6_of, matrix_of, matrix_row, matrix_rows, pair_bits};
 
 use crate::edge_sets::{has_pair, is_colour_set, is_edge_set};
 use crate::encoding::{push_bits, push_size};
@@ -17,9 +17,9 @@ use text_lines::Text;
 /// The set is bad where one of its numbers is no colour of a pair, or where the pairs include a
 /// diagonal pair, or a pair without its transposed pair.
 pub fn write_graph6(alloc: Global, relation: &Colouring, set: &[u32]) -> Result<Vec<u8>, WriteFault>
-    ensures text { IfOk result (λ text. text.items ≡ spec.graph6_of relation.now set.now) }
-    ensures good { OnOk result (spec.IsEdgeSet relation.now set.now) }
-    ensures bad { IsErrOf result WriteFault.BadSet → ¬ spec.IsEdgeSet relation.now set.now }
+    ensures text { IfOk result (λ text. text.items ≡ graph6_of relation.now set.now) }
+    ensures good { OnOk result (IsEdgeSet relation.now set.now) }
+    ensures bad { IsErrOf result WriteFault.BadSet → ¬ IsEdgeSet relation.now set.now }
 {
     if !is_edge_set(relation, set) {
         return Err(WriteFault::BadSet);
@@ -40,9 +40,9 @@ pub fn write_digraph6(
     relation: &Colouring,
     set: &[u32],
 ) -> Result<Vec<u8>, WriteFault>
-    ensures text { IfOk result (λ text. text.items ≡ spec.digraph6_of relation.now set.now) }
-    ensures good { OnOk result (spec.IsColourSet relation.now set.now) }
-    ensures bad { IsErrOf result WriteFault.BadSet → ¬ spec.IsColourSet relation.now set.now }
+    ensures text { IfOk result (λ text. text.items ≡ digraph6_of relation.now set.now) }
+    ensures good { OnOk result (IsColourSet relation.now set.now) }
+    ensures bad { IsErrOf result WriteFault.BadSet → ¬ IsColourSet relation.now set.now }
 {
     if !is_colour_set(relation, set) {
         return Err(WriteFault::BadSet);
@@ -56,7 +56,7 @@ pub fn write_digraph6(
 
 // Column by column, whether the colour of each pair (i, j) with i below j is in the set.
 fn column_bits(alloc: Global, relation: &Colouring, set: &[u32]) -> Result<Vec<bool>, NoMemory>
-    ensures { IfOk result (λ bits. bits.items ≡ spec.pair_bits relation.now set.now (column_pairs relation.now.size)) }
+    ensures { IfOk result (λ bits. bits.items ≡ pair_bits relation.now set.now (column_pairs relation.now.size)) }
 {
     let mut bits = Vec::new(alloc);
     for j in 0..relation.size() {
@@ -69,7 +69,7 @@ fn column_bits(alloc: Global, relation: &Colouring, set: &[u32]) -> Result<Vec<b
 
 // Row by row, whether the colour of each pair is in the set.
 fn row_bits(alloc: Global, relation: &Colouring, set: &[u32]) -> Result<Vec<bool>, NoMemory>
-    ensures { IfOk result (λ bits. bits.items ≡ spec.pair_bits relation.now set.now (row_pairs relation.now.size)) }
+    ensures { IfOk result (λ bits. bits.items ≡ pair_bits relation.now set.now (row_pairs relation.now.size)) }
 {
     let mut bits = Vec::new(alloc);
     for i in 0..relation.size() {
@@ -82,7 +82,7 @@ fn row_bits(alloc: Global, relation: &Colouring, set: &[u32]) -> Result<Vec<bool
 
 /// The matrix text: the head line, and the rows of `put_rows`.
 pub fn write_matrix(alloc: Global, relation: &Colouring) -> Result<Vec<u8>, NoMemory>
-    ensures { IfOk result (λ text. text.items ≡ spec.matrix_of relation.now) }
+    ensures { IfOk result (λ text. text.items ≡ matrix_of relation.now) }
 {
     let mut text = Text::new(alloc);
     text.put_field(b"matrix ", relation.size())?;
@@ -94,7 +94,7 @@ pub fn write_matrix(alloc: Global, relation: &Colouring) -> Result<Vec<u8>, NoMe
 /// Puts the rows of a matrix at the end of a text, a line each: its numbers, each followed by one
 /// space or by the line end.
 pub fn put_rows(text: &mut Text, matrix: &Colouring) -> Result<(), NoMemory>
-    ensures { OnOk result (text.new ≡ text.old ++ spec.matrix_rows matrix.now) }
+    ensures { OnOk result (text.new ≡ text.old ++ matrix_rows matrix.now) }
 {
     for x in 0..matrix.size() {
         put_row(text, matrix, x)?;
@@ -106,7 +106,7 @@ pub fn put_rows(text: &mut Text, matrix: &Colouring) -> Result<(), NoMemory>
 // Puts row x of a matrix at the end, without its line end.
 fn put_row(text: &mut Text, matrix: &Colouring, x: u32) -> Result<(), AllocError>
     requires { x < matrix.now.size }
-    ensures { OnOk result (text.new ≡ text.old ++ spec.matrix_row matrix.now x) }
+    ensures { OnOk result (text.new ≡ text.old ++ matrix_row matrix.now x) }
 {
     for y in 0..matrix.size() {
         text.put_next(b' ', y as usize, matrix.get(x, y))?;

@@ -1,10 +1,5 @@
-use Rattle.std.proofs.Common.{◌≤◌}
-use Rattle.std.specs.Prelude.{All}
-use Rattle.std.proofs.lemmas.Result.{IfOk-weaker}
 use Rattle.text_lines.specs.Views.{part_of}
-use Rattle.pair_colours.specs.declared.coloured_pairs.TheConstants.{MOST_COLOUR}
-use Rattle.relation_text.specs.Relation.{IsRelationText}
-use Rattle.relation_text.proofs.RawColours.{raw_colours}
+use Rattle.relation_text.proofs.RawColours.{raw-read}
 use Rattle.relation_text.proofs.Readings.{graph_read, digraph_read, matrix_read}
 use Rattle.relation_text.proofs.reading.read_relation.Goals as goal
 
@@ -24,13 +19,10 @@ returns-else-starts_with-2-clause-read c =
     c.read_graph.ensures.good c.read_graph.ensures.colouring c.read_graph.ensures.points c.read_graph.ensures.edges
 
 pub returns-then-starts_with-clause-raw : goal.returns-then-starts_with-clause-raw
-returns-then-starts_with-clause-raw c =
-    IfOk-weaker c.read_matrix.result (IsRelationText c.args.bytes.now c.args.line) (λ C. All (λ colour. colour ≤ MOST_COLOUR) C.colours) (raw_colours c.args.bytes.now c.args.line) (returns-then-starts_with-clause-read c)
+returns-then-starts_with-clause-raw c = raw-read c.args.bytes.now c.args.line c.read_matrix.result (returns-then-starts_with-clause-read c)
 
 pub returns-then-starts_with-2-clause-raw : goal.returns-then-starts_with-2-clause-raw
-returns-then-starts_with-2-clause-raw c =
-    IfOk-weaker c.read_digraph.result (IsRelationText c.args.bytes.now c.args.line) (λ C. All (λ colour. colour ≤ MOST_COLOUR) C.colours) (raw_colours c.args.bytes.now c.args.line) (returns-then-starts_with-2-clause-read c)
+returns-then-starts_with-2-clause-raw c = raw-read c.args.bytes.now c.args.line c.read_digraph.result (returns-then-starts_with-2-clause-read c)
 
 pub returns-else-starts_with-2-clause-raw : goal.returns-else-starts_with-2-clause-raw
-returns-else-starts_with-2-clause-raw c =
-    IfOk-weaker c.read_graph.result (IsRelationText c.args.bytes.now c.args.line) (λ C. All (λ colour. colour ≤ MOST_COLOUR) C.colours) (raw_colours c.args.bytes.now c.args.line) (returns-else-starts_with-2-clause-read c)
+returns-else-starts_with-2-clause-raw c = raw-read c.args.bytes.now c.args.line c.read_graph.result (returns-else-starts_with-2-clause-read c)

@@ -5,7 +5,9 @@ use Rattle.std.proofs.lemmas.List.{length-map, length-take, get_or-map, map-appe
 use Rattle.std.proofs.lemmas.List.Elements.{All-append, All-take}
 use Rattle.pair_colours.specs.Colouring.{PairColouring}
 use Rattle.pair_colours.specs.Closure.{IsClosureOf}
+use Rattle.pair_colours.proofs.Places.{Refines-refl}
 use Rattle.recolour_bench.specs.declared.edits.Edit.{Edit}
+use Rattle.recolour_bench.specs.declared.edits.Edit.TheVariants.{Adopt}
 use Rattle.recolour_bench.specs.declared.edits.EditFault.TheVariants.{HistoryFull}
 use Rattle.recolour_bench.specs.declared.history.Kept.{Kept}
 use Rattle.recolour_bench.specs.declared.history.TheConstants.{MOST_POSITION}
@@ -74,6 +76,17 @@ IsKeptHistory-edited kept new position entry e K k step closure put = record {
   where
     Closed : Kept → Type 0
     Closed a = IsClosureOf a.closure a.raw
+
+-- the closure of a colouring is its own closure
+IsClosureOf-own : (K C : PairColouring) → IsClosureOf K C → IsClosureOf K K
+IsClosureOf-own K C k = record {
+  closure = record { colouring = k.closure.colouring; coherent = k.closure.coherent; refines = Refines-refl K; coarsest = λ Q q h r. r };
+  named = k.named;
+}
+
+-- so what `adopt` makes is its own closure
+pub IsClosureOf-adopted : (C K next : PairColouring) (e : Edit) → IsClosureOf K C → next ≡ edited C K e → e ≡ Adopt → IsClosureOf next next
+IsClosureOf-adopted C K next e k made adopt = subst (λ D. IsClosureOf D D) (sym (made ∙ ap (edited C K) adopt)) (IsClosureOf-own K C k)
 
 pub none_from_not : {X : Type 0} (o : Option X) → ((x : X) → o ≡ Some x → ⊥) → o ≡ None
 none_from_not None h = refl

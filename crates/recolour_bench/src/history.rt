@@ -3,6 +3,7 @@
 ghost use Rattle.std.specs.Prelude.{◌≡◌, ◌≢◌, ◌+◌, ◌<◌, ◌≤◌, ◌↔◌, ◌++◌, [], ◌∷◌, All, IfOk, IfErr, OnOk, OnErr, IsErrOf, IsOkUnless, length, take, Option, Some};
 ghost use Rattle.pair_colours.specs.Colouring.{PairColouring, FitsColouring};
 ghost use Rattle.pair_colours.specs.Closure.{IsClosureOf};
+ghost use Rattle.recolour_bench.specs.declared.edits.Edit.TheVariants.{Adopt};
 ghost use Rattle.recolour_bench.specs.History.{IsHistory, IsRawColouring, present, started};
 ghost use Rattle.recolour_bench.specs.Steps.{edits, undoes, redoes, refusal, Accepts, Step, UndoStep, RedoStep};
 
@@ -33,6 +34,17 @@ fn put_after(kept: &mut Vec<Kept>, place: usize, entry: Kept) -> Result<(), NoMe
     kept.insert(place + 1, entry)?;
     kept.truncate(place + 2);
     Ok(())
+}
+
+// The closure of a colouring that the edit made. What `adopt` made is a closure, and so its own.
+fn closure_after(alloc: Global, edit: &Edit, raw: &Colouring) -> Result<Colouring, NoMemory>
+    requires { edit.now ≡ Adopt → IsClosureOf raw.now raw.now }
+    ensures { IfOk result (λ closure. IsClosureOf closure raw.now) }
+{
+    match edit {
+        Edit::Adopt => raw.copy(alloc),
+        _ => close_matrix(alloc, raw),
+    }
 }
 
 /// The colourings that a run of edits has made, the present one among them. Later ones, from
@@ -119,7 +131,7 @@ impl Bench {
             return Err(fault);
         }
         let raw = edited_by(self.alloc, &now.raw, &now.closure, edit)?;
-        let closure = close_matrix(self.alloc, &raw)?;
+        let closure = closure_after(self.alloc, edit, &raw)?;
         put_after(
             &mut self.kept,
             self.position as usize,

@@ -2,8 +2,14 @@ use Rattle.std.proofs.Common.{◌+◌, inl, sym, subst, ◌∙◌}
 use Rattle.recolour_bench.specs.History.{History}
 use Rattle.recolour_bench.specs.Kept.{history_of}
 use Rattle.recolour_bench.specs.Steps.{EditStep}
-use Rattle.recolour_bench.proofs.Keeping.{EditStep-kept, IsKeptHistory-edited, none_from_not}
+use Rattle.recolour_bench.proofs.Keeping.{EditStep-kept, IsClosureOf-adopted, IsPresentEntry-read, IsKeptHistory-edited, none_from_not}
 use Rattle.recolour_bench.proofs.history.Bench.edit.Goals as goal
+
+pub closure_after-requires : goal.closure_after-requires
+closure_after-requires c =
+    let now = c.index-now.result.now in
+    let entry = IsPresentEntry-read c.self.inside.kept.items c.self.inside.position now c.self.invariant c.index-now.ensures in
+    IsClosureOf-adopted now.raw now.closure c.in_ok-raw.raw c.args.edit.now entry.closure c.in_ok-raw.ensures
 
 -- the edit is accepted
 step : (c : goal.After-self-1) → EditStep (history_of c.self.inside.kept.items c.self.inside.position) c.args.edit.now c.index-now.result.now.closure (history_of c.put_after.new.kept.items (c.self.inside.position + 1))

@@ -15,3 +15,4 @@ pub mod Meets
 pub mod NumberedLists
 pub mod Writes
 pub mod Reaching
+pub mod SideCodes

@@ -5,3 +5,4 @@ pub mod Rounds
 pub mod IntersectionNumber
 pub mod ClosedSet
 pub mod Lists
+pub mod SideCodes

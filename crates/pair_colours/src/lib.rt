@@ -4,6 +4,7 @@
 //! * `coloured_pairs`: `Colouring`, the matrix of colours that every crate above works on.
 //! * `number_list`: `Numbers`, the list of numbers that readers and answers hand on.
 //! * `numbering`: numbers for equal entries of a list, which naming, refining and meeting share.
+//! * `pair_codes`: `pair_code`, two numbers as one.
 //! * `laws`: what holds of the definitions alone.
 //!
 //! The definitions stand in `specs/`; docs/DEFINITIONS.md has them in words.
@@ -14,7 +15,9 @@ pub mod laws;
 mod no_memory;
 mod number_list;
 mod numbering;
+mod pair_codes;
 
 pub use coloured_pairs::{Colouring, MOST_COLOUR, MOST_POINTS};
 pub use no_memory::NoMemory;
 pub use number_list::Numbers;
+pub use pair_codes::pair_code;

@@ -4,6 +4,7 @@ ghost use Rattle.std.specs.Prelude.{◌≡◌, ◌↔◌, ◌^◌, ◌<◌, ◌�
 ghost use Rattle.pair_colours.specs.Lists.{Determines, IsPaired};
 
 use crate::no_memory::NoMemory;
+use crate::pair_codes::pair_code;
 use indexmap::{IndexMap, IndexSet};
 use std::alloc::Global;
 
@@ -31,7 +32,7 @@ pub(crate) fn paired(alloc: Global, xs: &[u32], ys: &[u32]) -> Result<Vec<u64>, 
 {
     let mut codes = Vec::new(alloc);
     for i in 0..xs.len() {
-        codes.push(u64::from(xs[i]) * 0x1_0000_0000 + u64::from(ys[i]))?;
+        codes.push(pair_code(xs[i], ys[i]))?;
     }
     Ok(codes)
 }

@@ -1,22 +1,19 @@
 -- The entries of the codes over all points are the triangle numbers.
-use Rattle.std.proofs.Common.{◌≡◌, ◌==◌, ◌&&◌, ℕ, ◌+◌, ◌*◌, ◌^◌, ◌<◌, ◌≤◌, Bool, List, get_or, count_by, Any, inl, inr, ⊎_elim, sym, ap, subst, ◌∙◌, arith}
+use Rattle.std.proofs.Common.{◌≡◌, ◌==◌, ◌&&◌, ℕ, ◌+◌, ◌*◌, ◌^◌, ◌<◌, ◌≤◌, Bool, List, get_or, count_by, Any, inl, inr, ⊎_elim, ap, subst, ◌∙◌, arith}
 use Rattle.std.specs.List.Sorted.{IsPermutation}
 use Rattle.std.proofs.lemmas.Bool.{cases_lt}
 use Rattle.std.proofs.lemmas.Bool.Decides.{Decides-eqb, Decides-and, Decides-like, same_from_decides}
 use Rattle.std.proofs.lemmas.Nat.{same_from_place}
-use Rattle.std.proofs.lemmas.List.FromFn.{length-range_with_len, get_or-map-range_with_len, length-map-range_with_len}
+use Rattle.std.proofs.lemmas.List.FromFn.{length-range_with_len, get_or-map-range_with_len}
 use Rattle.std.proofs.lemmas.List.Sums.{sum_by_push, count_by-le-length}
 use Rattle.std.proofs.lemmas.List.Sorted.{IsPermutation-sym, sum_by-IsPermutation, All-permutation}
 use Rattle.pair_colours.specs.Colouring.{PairColouring, FitsColouring, colour_at, points, triangles}
+use Rattle.pair_colours.specs.SideCodes.{side_code, side_codes}
 use Rattle.pair_colours.proofs.Counts.{triangle_point, count_by-map, count_by_points, points_more, unit_of}
-use Rattle.pair_colours.proofs.Places.{place_below}
+use Rattle.pair_colours.proofs.SideCodes.{colour_small, length-side_codes}
 use Rattle.triangle_count.specs.declared.rows.Entry.{Entry}
 use Rattle.triangle_count.specs.Row.{Precedes, IsRowAt}
-use Rattle.triangle_count.specs.Runs.{code_of, side_code, side_codes, IsTally}
-
--- a colour of a colouring that the program keeps
-pub colour_small : (C : PairColouring) → FitsColouring C → (x y : ℕ) → x < C.size → y < C.size → colour_at C x y < 2 ^ 32
-colour_small C h x y hx hy = h.numbers (x * C.size + y) 0 (subst (λ n. x * C.size + y < n) (sym h.colouring.has_pairs) (place_below C.size x y hx hy))
+use Rattle.triangle_count.specs.Runs.{code_of, IsTally}
 
 -- a step of a count over the points
 pub count_more : (p : ℕ → Bool) (z count new : ℕ) → count ≡ count_by p (points z) → new ≡ count + unit_of (p z) → new ≡ count_by p (points (z + 1))
@@ -62,7 +59,7 @@ IsRowAt-from_tally C x y codes entries fits hx hy p t = record {
         let z = triangle_point C x y i j h in
         let is : get_or (side_codes C x y) z.0 0 ≡ side_code C x y z.0 = get_or-map-range_with_len (side_code C x y) 0 C.size z.0 z.0 0 z.1 (omega arith) in
         let each = All-permutation (λ code. Any (λ e. code_of e ≡ code) entries) codes (side_codes C x y) (IsPermutation-sym (side_codes C x y) codes p) t.complete in
-        let a = each z.0 0 (omega (arith, z.1, length-map-range_with_len (side_code C x y) 0 C.size)) in
+        let a = each z.0 0 (omega (arith, z.1, length-side_codes C x y)) in
         let d : Entry = a.1 in
         let small = t.small a.0 d a.2 in
         let same : d.right < 2 ^ 32 = subst (λ (e : Entry). e.right < 2 ^ 32) a.3 small in

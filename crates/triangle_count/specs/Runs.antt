@@ -1,18 +1,11 @@
--- How the two colours over a point are written as one number, and what it is to count such numbers.
-use Rattle.std.specs.Prelude.{◌≡◌, ◌==◌, ℕ, ◌+◌, ◌*◌, ◌^◌, ◌<◌, ◌≤◌, List, length, map, count_by, All, AllPairs, Any}
-use Rattle.pair_colours.specs.Colouring.{PairColouring, colour_at, points}
+-- What it is to count codes, each the two colours over a point as one number.
+use Rattle.std.specs.Prelude.{◌≡◌, ◌==◌, ℕ, ◌^◌, ◌<◌, ◌≤◌, List, length, count_by, All, AllPairs, Any}
+use Rattle.pair_colours.specs.SideCodes.{code_of_pair}
 use Rattle.triangle_count.specs.declared.rows.Entry.{Entry}
 
 -- the two colours of an entry as one number
 abbrev pub code_of : Entry → ℕ
-code_of e = e.left * 2 ^ 32 + e.right
-
--- the colours from x to z and from z to y as one number
-abbrev pub side_code : PairColouring → ℕ → ℕ → ℕ → ℕ
-side_code C x y z = colour_at C x z * 2 ^ 32 + colour_at C z y
-
-abbrev pub side_codes : PairColouring → ℕ → ℕ → List ℕ
-side_codes C x y = map (side_code C x y) (points C.size)
+code_of e = code_of_pair e.left e.right
 
 -- the entries hold the different codes of a list, rising, each with how often it stands there
 pub record IsTally (codes : List ℕ) (entries : List Entry) : Type 0 where

@@ -1,7 +1,7 @@
-//! Entries from a sorted list of codes. A code holds the two colours over a point, the left one in
-//! its upper half, so codes are in the order of the entries.
+//! Entries from a sorted list of codes. A code is the `pair_code` of the two colours over a point,
+//! so codes are in the order of the entries.
 
-ghost use Rattle.std.specs.Prelude.{◌≡◌, ◌≢◌, ◌+◌, ◌*◌, ◌^◌, ◌<◌, IfOk, length, slice_index};
+ghost use Rattle.std.specs.Prelude.{◌≡◌, ◌≢◌, ◌+◌, ◌^◌, ◌<◌, IfOk, length, slice_index};
 ghost use Rattle.std.specs.Bool.{OnTrue, OnFalse};
 ghost use Rattle.std.specs.List.Sorted.{IsNonDecreasing};
 ghost use Rattle.triangle_count.specs.Runs.{IsTally, code_of};
@@ -12,13 +12,6 @@ use std::alloc::Global;
 
 // One above the greatest colour.
 const COLOURS: u64 = 0x1_0000_0000;
-
-// The two colours over a point as one number.
-pub(crate) fn code(left: u32, right: u32) -> u64
-    ensures { result ≡ left * 2 ^ 32 + right }
-{
-    u64::from(left) * COLOURS + u64::from(right)
-}
 
 // The entry of the two colours of a code.
 fn entry(code: u64, count: u32) -> Entry

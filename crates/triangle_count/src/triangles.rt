@@ -2,12 +2,12 @@
 
 ghost use Rattle.std.specs.Prelude.{◌≡◌, ◌==◌, ◌&&◌, ◌<◌, IfOk};
 ghost use Rattle.pair_colours.specs.Colouring.{FitsColouring, colour_at, triangles};
+ghost use Rattle.pair_colours.specs.SideCodes.{side_codes};
 ghost use Rattle.triangle_count.specs.Row.{IsRowAt};
-ghost use Rattle.triangle_count.specs.Runs.{side_codes};
 
 use crate::rows::Row;
-use crate::runs::{code, runs};
-use pair_colours::{Colouring, NoMemory};
+use crate::runs::runs;
+use pair_colours::{Colouring, NoMemory, pair_code};
 use std::alloc::Global;
 
 /// How many points z have the colour `left` from x to z and the colour `right` from z to y.
@@ -55,7 +55,7 @@ fn sides(alloc: Global, c: &Colouring, x: u32, y: u32) -> Result<Vec<u64>, NoMem
 {
     let mut codes = Vec::with_capacity(alloc, c.size() as usize)?;
     for z in 0..c.size() {
-        codes.push(code(c.get(x, z), c.get(z, y)))?;
+        codes.push(pair_code(c.get(x, z), c.get(z, y)))?;
     }
     Ok(codes)
 }

@@ -5,7 +5,7 @@ ghost use Rattle.pair_colours.specs.Rounds.{IsRound};
 ghost use Rattle.wl_refine.specs.Signature.{IsSignature};
 
 use indexmap::IndexSet;
-use pair_colours::{Colouring, NoMemory};
+use pair_colours::{Colouring, NoMemory, pair_code};
 use std::alloc::Global;
 
 // What decides which pairs are alike, as a list.
@@ -17,9 +17,7 @@ fn signature(alloc: Global, colouring: &Colouring, x: u32, y: u32) -> Result<Vec
     let size = colouring.size();
     let mut codes = Vec::with_capacity(alloc, size as usize + 3)?;
     for z in 0..size {
-        let first = u64::from(colouring.get(x, z));
-        let second = u64::from(colouring.get(z, y));
-        codes.push(first * 0x1_0000_0000 + second)?;
+        codes.push(pair_code(colouring.get(x, z), colouring.get(z, y)))?;
     }
     codes.sort_unstable();
     codes.push(u64::from(x == y))?;

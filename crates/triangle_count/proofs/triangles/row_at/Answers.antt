@@ -2,17 +2,17 @@ use Rattle.std.proofs.Common.{length, sym, ap, subst, arith}
 use Rattle.std.specs.List.Sorted.{IsPermutation, IsNonDecreasing}
 use Rattle.std.proofs.lemmas.Result.{IfOk-weaker}
 use Rattle.std.proofs.lemmas.List.Sorted.{IsNonDecreasingBy-from_sort, length_permutation}
-use Rattle.std.proofs.lemmas.List.FromFn.{length-map-range_with_len}
+use Rattle.pair_colours.specs.SideCodes.{side_codes}
+use Rattle.pair_colours.proofs.SideCodes.{length-side_codes}
 use Rattle.triangle_count.specs.Row.{IsRowAt}
-use Rattle.triangle_count.specs.Runs.{side_code, side_codes, IsTally}
+use Rattle.triangle_count.specs.Runs.{IsTally}
 use Rattle.triangle_count.proofs.RowLemmas.{IsRowAt-from_tally}
 use Rattle.triangle_count.proofs.triangles.row_at.Goals as goal
 
 pub runs-requires-clause-short : goal.runs-requires-clause-short
 runs-requires-clause-short c =
     let C = c.args.c.now in
-    let len = length-map-range_with_len (side_code C c.args.x c.args.y) 0 C.size in
-    omega (arith, ap length c.deref.ensures.value, length_permutation _ _ c.sort_unstable.ensures.permutation, ap length c.in_ok-codes.ensures.codes, len, c.in_ok-codes.ensures.within.limit)
+    omega (arith, ap length c.deref.ensures.value, length_permutation _ _ c.sort_unstable.ensures.permutation, ap length c.in_ok-codes.ensures.codes, length-side_codes C c.args.x c.args.y, c.in_ok-codes.ensures.within.limit)
 
 pub runs-requires-clause-sorted : goal.runs-requires-clause-sorted
 runs-requires-clause-sorted c =

@@ -1,11 +1,11 @@
-use Rattle.std.proofs.Common.{◌≡◌, ◌++◌, ◌∷◌, [], sym, ◌∙◌, arith}
-use Rattle.std.proofs.lemmas.List.FromFn.{map-range_with_len_more}
-use Rattle.triangle_count.specs.Runs.{side_code}
+use Rattle.std.proofs.Common.{◌≡◌, arith}
+use Rattle.pair_colours.specs.SideCodes.{side_code}
+use Rattle.pair_colours.proofs.SideCodes.{side_codes_more}
 use Rattle.triangle_count.proofs.triangles.sides.Goals as goal
 
 pub loop-z-preserved : goal.loop-z-preserved
 loop-z-preserved c =
-    let f = side_code c.args.c.now c.args.x c.args.y in
+    let C = c.args.c.now in
     let z = c.loop-z.z in
-    let code : c.code.result ≡ f z = omega (arith, c.code.ensures, c.get.ensures, c.get-in-loop-z.ensures) in
-    c.in_ok-push.ensures.items ∙ (λ i. c.loop-z.invariant i ++ code i ∷ []) ∙ sym (map-range_with_len_more f 0 z z (omega arith))
+    let code : c.pair_code.result ≡ side_code C c.args.x c.args.y z = omega (arith, c.pair_code.ensures, c.get.ensures, c.get-in-loop-z.ensures) in
+    side_codes_more C c.args.x c.args.y z c.pair_code.result c.loop-z.codes.items c.push.new.self.items c.loop-z.invariant code c.in_ok-push.ensures.items

@@ -1,6 +1,6 @@
 use Rattle.std.proofs.Common.{◌≡◌, map}
 use Rattle.pair_colours.specs.Colouring.{points}
-use Rattle.triangle_count.specs.Runs.{side_code}
+use Rattle.pair_colours.specs.SideCodes.{side_code}
 use Rattle.triangle_count.proofs.triangles.sides.Given as goal
 
 abbrev pub invariant-loop-z : goal.invariant-loop-z

@@ -1,11 +1,15 @@
 use Rattle.std.proofs.Common.{◌≡◌, ◌==◌, ◌∙◌, arith}
-use Rattle.wl_refine.proofs.Codes.{codes_more, IsSignature-sorted, flag_is}
+use Rattle.pair_colours.specs.SideCodes.{side_code}
+use Rattle.pair_colours.proofs.SideCodes.{side_codes_more}
+use Rattle.wl_refine.proofs.Codes.{IsSignature-sorted, flag_is}
 use Rattle.wl_refine.proofs.signatures.signature.Goals as goal
 
 pub loop-z-preserved : goal.loop-z-preserved
 loop-z-preserved c =
-    codes_more c.args.colouring.now c.args.x c.args.y c.loop-z.z c.from-first.result c.from-second.result c.loop-z.codes.items c.push.new.self.items
-    c.loop-z.invariant (c.from-first.ensures ∙ c.get.ensures) (c.from-second.ensures ∙ c.get-in-loop-z.ensures) c.in_ok-push.ensures.items
+    let P = c.args.colouring.now in
+    let z = c.loop-z.z in
+    let code : c.pair_code.result ≡ side_code P c.args.x c.args.y z = omega (arith, c.pair_code.ensures, c.get.ensures, c.get-in-loop-z.ensures) in
+    side_codes_more P c.args.x c.args.y z c.pair_code.result c.loop-z.codes.items c.push.new.self.items c.loop-z.invariant code c.in_ok-push.ensures.items
 
 pub returns : goal.returns
 returns c =

@@ -6,7 +6,7 @@ use Rattle.std.proofs.lemmas.List.Sums.{sum_by_more}
 use Rattle.pair_colours.specs.Colouring.{PairColouring, IsColouring, colour_at, points}
 use Rattle.pair_colours.specs.Naming.{rank_of}
 use Rattle.pair_colours.specs.IntersectionNumber.{pair_of_class, intersection_number}
-use Rattle.pair_colours.proofs.Counts.{unit_of}
+use Rattle.pair_colours.proofs.Counts.{unit_of, sum_by_points_agree}
 use Rattle.pair_colours.proofs.Measure.{sum_by_points_more}
 use Rattle.pair_colours.proofs.Places.{place_below}
 use Rattle.struct_consts.specs.ClassData.{IsConfiguration, row_count, valency_of, class_size, fibres_of, fibre_size}
@@ -14,10 +14,6 @@ use Rattle.struct_consts.proofs.Configurations.{pair_of_class-holds, colour_at-b
 use Rattle.struct_consts.proofs.Constancy.{valency-fibre, row_count-other}
 
 -- sums over the points below n
-sum_agree : (f g : ℕ → ℕ) (n : ℕ) → ((k : ℕ) → k < n → f k ≡ g k) → sum_by f (points n) ≡ sum_by g (points n)
-sum_agree f g zero h = refl
-sum_agree f g (suc n) h = omega (arith, sum_agree f g n (λ k l. h k (omega (arith, l))), h n (omega arith), sum_by_points_more f n, sum_by_points_more g n)
-
 sum_add : (f g : ℕ → ℕ) (n : ℕ) → sum_by (λ k. f k + g k) (points n) ≡ sum_by f (points n) + sum_by g (points n)
 sum_add f g zero = refl
 sum_add f g (suc n) = omega (arith, sum_add f g n, sum_by_points_more f n, sum_by_points_more g n, sum_by_points_more (λ k. f k + g k) n)
@@ -32,13 +28,13 @@ one_hit a zero l = absurd (omega (arith, l))
 one_hit a (suc n) l = ⊎_elim
     (λ (m : a < n). omega (arith, one_hit a n m, sum_by_points_more (λ k. unit_of (a == k)) n, ap unit_of (ne_eqb a n (λ e. omega (arith, e, m)))))
     (λ (m : n ≤ a).
-    let none = sum_agree (λ k. unit_of (a == k)) (λ _. 0) n (λ k q. ap unit_of (ne_eqb a k (λ e. omega (arith, e, m, q)))) in
+    let none = sum_by_points_agree (λ k. unit_of (a == k)) (λ _. 0) n (λ k q. ap unit_of (ne_eqb a k (λ e. omega (arith, e, m, q)))) in
     omega (arith, none, sum_zero n, sum_by_points_more (λ k. unit_of (a == k)) n, ap unit_of (eq-eqb a n (omega (arith, l, m)))))
     (cases_lt a n)
 
 -- one pair of numbers below n is (a, b)
 one_pair : (a b n : ℕ) → a < n → b < n → sum_by (λ i. sum_by (λ j. unit_of ((a == i) && (b == j))) (points n)) (points n) ≡ 1
-one_pair a b n ha hb = sum_agree (λ i. sum_by (λ j. unit_of ((a == i) && (b == j))) (points n)) (λ i. unit_of (a == i)) n (λ i _. by (a == i)) ∙ one_hit a n ha
+one_pair a b n ha hb = sum_by_points_agree (λ i. sum_by (λ j. unit_of ((a == i) && (b == j))) (points n)) (λ i. unit_of (a == i)) n (λ i _. by (a == i)) ∙ one_hit a n ha
   where
     by : (t : Bool) → sum_by (λ j. unit_of (t && (b == j))) (points n) ≡ unit_of t
     by true = one_hit b n hb
@@ -47,16 +43,16 @@ one_pair a b n ha hb = sum_agree (λ i. sum_by (λ j. unit_of ((a == i) && (b ==
 -- counts of two tests over all pairs of values take in each point once
 all_counted : (f g : ℕ → ℕ) (r n : ℕ) → ((z : ℕ) → z < n → (f z < r) × (g z < r))
     → sum_by (λ i. sum_by (λ j. count_by (λ z. (f z == i) && (g z == j)) (points n)) (points r)) (points r) ≡ n
-all_counted f g r zero h = sum_agree (λ i. sum_by (λ j. 0) (points r)) (λ _. 0) r (λ i _. sum_zero r) ∙ sum_zero r
+all_counted f g r zero h = sum_by_points_agree (λ i. sum_by (λ j. 0) (points r)) (λ _. 0) r (λ i _. sum_zero r) ∙ sum_zero r
 all_counted f g r (suc n) h =
     let again = all_counted f g r n (λ z l. h z (omega (arith, l))) in
     let here = h n (omega arith) in
     let count : ℕ → ℕ → ℕ = λ i j. count_by (λ z. (f z == i) && (g z == j)) (points n) in
     let unit : ℕ → ℕ → ℕ = λ i j. unit_of ((f n == i) && (g n == j)) in
     let rows : (i : ℕ) → sum_by (λ j. count_by (λ z. (f z == i) && (g z == j)) (points (suc n))) (points r) ≡ sum_by (count i) (points r) + sum_by (unit i) (points r) = λ i.
-    sum_agree (λ j. count_by (λ z. (f z == i) && (g z == j)) (points (suc n))) (λ j. count i j + unit i j) r (λ j _. sum_by_points_more (λ z. unit_of ((f z == i) && (g z == j))) n)
+    sum_by_points_agree (λ j. count_by (λ z. (f z == i) && (g z == j)) (points (suc n))) (λ j. count i j + unit i j) r (λ j _. sum_by_points_more (λ z. unit_of ((f z == i) && (g z == j))) n)
     ∙ sum_add (count i) (unit i) r in
-    sum_agree (λ i. sum_by (λ j. count_by (λ z. (f z == i) && (g z == j)) (points (suc n))) (points r)) (λ i. sum_by (count i) (points r) + sum_by (unit i) (points r)) r (λ i _. rows i)
+    sum_by_points_agree (λ i. sum_by (λ j. count_by (λ z. (f z == i) && (g z == j)) (points (suc n))) (points r)) (λ i. sum_by (count i) (points r) + sum_by (unit i) (points r)) r (λ i _. rows i)
     ∙ sum_add (λ i. sum_by (count i) (points r)) (λ i. sum_by (unit i) (points r)) r
     ∙ omega (arith, again, one_pair (f n) (g n) r here.0 here.1)
 

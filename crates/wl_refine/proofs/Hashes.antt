@@ -1,4 +1,4 @@
-use Rattle.std.proofs.Common.{◌≡◌, ◌==◌, ℕ, suc, zero, ◌+◌, ◌-◌, ◌*◌, ◌/◌, ◌%◌, ◌^◌, ◌<◌, ◌≤◌, List, [], ◌∷◌, length, get_or, drop, map, sum_by, refl, sym, ap, subst, ◌∙◌, arith, if◌then◌else◌}
+use Rattle.std.proofs.Common.{◌≡◌, ◌==◌, ℕ, suc, ◌+◌, ◌-◌, ◌*◌, ◌/◌, ◌%◌, ◌^◌, ◌<◌, ◌≤◌, List, [], ◌∷◌, length, get_or, drop, map, sum_by, refl, sym, ap, subst, ◌∙◌, arith, if◌then◌else◌}
 use Rattle.std.specs.List.{slice_range}
 use Rattle.std.proofs.Math.Nat.{mod-add-mod}
 use Rattle.std.proofs.lemmas.Nat.{mul-le}
@@ -9,6 +9,7 @@ use Rattle.std.proofs.lemmas.List.Sums.{sum_by-cons}
 use Rattle.std.proofs.lemmas.List.Sorted.{sum_by-IsPermutation}
 use Rattle.pair_colours.specs.Colouring.{PairColouring, IsColouring, colour_at, points}
 use Rattle.pair_colours.specs.Rounds.{Alike}
+use Rattle.pair_colours.proofs.Counts.{sum_by_points_agree}
 use Rattle.pair_colours.proofs.Measure.{sum_by_points_more}
 use Rattle.pair_colours.proofs.Places.{place_below}
 use Rattle.pair_colours.proofs.Rounds.{sides, IsPermutation-sides}
@@ -25,14 +26,6 @@ products_more xs ys z sum a b e f g =
     (λ i. (e i + f i * g i) % 2 ^ 64)
     ∙ mod-add-mod (sum_by product (points z)) (2 ^ 64) (product z)
     ∙ ap (λ s. s % 2 ^ 64) (sym (sum_by_points_more product z) ∙ ap (λ k. sum_by product (points k)) next)
-
--- sums of equal terms
-sum_by_points_agree : (f g : ℕ → ℕ) (n : ℕ) → ((z : ℕ) → z < n → f z ≡ g z) → sum_by f (points n) ≡ sum_by g (points n)
-sum_by_points_agree f g zero h = refl
-sum_by_points_agree f g (suc n) h =
-    sum_by_points_more f n
-    ∙ (λ i. sum_by_points_agree f g n (λ z l. h z (omega (arith, l))) i + h n (omega arith) i)
-    ∙ sym (sum_by_points_more g n)
 
 sum_by-map : {X Y : Type 0} (f : Y → ℕ) (g : X → Y) (xs : List X) → sum_by f (map g xs) ≡ sum_by (λ x. f (g x)) xs
 sum_by-map f g [] = refl

@@ -36,7 +36,7 @@ commutes_at_or_not K k = ⊎_elim
 
 commutative_or_not : (K : PairColouring) → IsConfiguration K → Commutative K ⊎ ¬ Commutative K
 commutative_or_not K g = ⊎_elim
-    (λ all. inl (commutative_from_each K g all))
+    (λ all. inl (commutative_from_each K (rank_of K) g (omega arith) (record { each = all })))
     (λ not. inr (λ h. not (commutes_at_each K g h)))
     (all_below (CommutesAt K) (rank_of K) (λ k _. commutes_at_or_not K k))
 

@@ -1,13 +1,13 @@
 -- What the look-ups of the tests say.
-use Rattle.std.proofs.Common.{◌≡◌, ℕ, ◌<◌, ◌≤◌, List, length, get_or, ⊎_elim, sym, subst, ◌∙◌, arith}
+use Rattle.std.proofs.Common.{◌≡◌, ℕ, ◌+◌, ◌<◌, ◌≤◌, List, length, get_or, Some, option_map, ⊎_elim, sym, ap, subst, ◌∙◌, arith}
 use Rattle.std.proofs.lemmas.Bool.{cases_lt}
 use Rattle.pair_colours.specs.Colouring.{PairColouring, colour_at}
-use Rattle.pair_colours.specs.Naming.{rank_of}
+use Rattle.pair_colours.specs.Naming.{rank_of, transpose_of}
 use Rattle.pair_colours.specs.IntersectionNumber.{pair_of_class, intersection_number}
 use Rattle.struct_consts.specs.Entry.{Entry}
 use Rattle.struct_consts.specs.Row.{IsRowAt}
 use Rattle.struct_consts.specs.ClassData.{IsConfiguration, row_count, valency_of}
-use Rattle.struct_consts.proofs.Configurations.{pair_of_class-holds, class_is_colour, colour_below, colour_at-below}
+use Rattle.struct_consts.proofs.Configurations.{pair_of_class-holds, first_pair_some, class_is_colour, colour_below, colour_at-below}
 use Rattle.struct_consts.proofs.Constancy.{valency-fibre}
 use Rattle.scheme_tests.specs.SchemeTests.{Homogeneous, Symmetric, Commutative, CommutesAt, Thin}
 
@@ -42,8 +42,25 @@ pub commutes_at_entry : (K : PairColouring) (k : ℕ) (e : Entry) → e.left < r
     → intersection_number K e.right e.left k ≡ e.count
 commutes_at_entry K k e hl hr c h = sym (h.swapped e.left e.right hl hr) ∙ sym c
 
-pub commutative_from_each : (K : PairColouring) → IsConfiguration K → ((k : ℕ) → k < rank_of K → CommutesAt K k) → Commutative K
-commutative_from_each K g each = record { swapped = λ i j k ui uj uk. (each k (colour_below K g k uk)).swapped i j (colour_below K g i ui) (colour_below K g j uj) }
+-- the classes before the n-th commute
+pub record CommutesBefore (K : PairColouring) (n : ℕ) : Type 0 where
+  pub each : (k : ℕ) → k < n → CommutesAt K k
+
+pub commutes_before_none : (K : PairColouring) → CommutesBefore K 0
+commutes_before_none K = record { each = λ k l. absurd (omega (arith, l)) }
+
+pub commutes_before_more : (K : PairColouring) (n : ℕ) → CommutesBefore K n → CommutesAt K n → CommutesBefore K (n + 1)
+commutes_before_more K n before here = record {
+  each = λ k l. ⊎_elim
+      (λ (m : k < n). before.each k m)
+      (λ (m : n ≤ k). let same : n ≡ k = omega (arith, l, m) in subst (CommutesAt K) same here)
+      (cases_lt k n);
+}
+
+pub commutative_from_each : (K : PairColouring) (n : ℕ) → IsConfiguration K → rank_of K ≤ n → CommutesBefore K n → Commutative K
+commutative_from_each K n g r before = record {
+  swapped = λ i j k ui uj uk. (before.each k (omega (arith, colour_below K g k uk, r))).swapped i j (colour_below K g i ui) (colour_below K g j uj);
+}
 
 pub commutes_at_each : (K : PairColouring) → IsConfiguration K → Commutative K → (k : ℕ) → k < rank_of K → CommutesAt K k
 commutes_at_each K g h k l = record { swapped = λ i j hi hj. h.swapped i j k (class_is_colour K g i hi) (class_is_colour K g j hj) (class_is_colour K g k l) }
@@ -52,11 +69,16 @@ commutes_at_each K g h k l = record { swapped = λ i j hi hj. h.swapped i j k (c
 pub symmetric_from_each : (K : PairColouring) → IsConfiguration K → ((x y : ℕ) → x < K.size → y < K.size → colour_at K x y < rank_of K → colour_at K y x ≡ colour_at K x y) → Symmetric K
 symmetric_from_each K g each = record { turned = λ x y hx hy. sym (each x y hx hy (colour_at-below K g x y hx hy)) }
 
-pub transpose_in_symmetric : (K : PairColouring) → IsConfiguration K → Symmetric K → (k t : ℕ) → k < rank_of K
-    → ((x y : ℕ) → x < K.size → y < K.size → colour_at K x y ≡ k → colour_at K y x ≡ t) → t ≡ k
-transpose_in_symmetric K g h k t l every =
+pub transpose_in_symmetric : (K : PairColouring) → IsConfiguration K → (k t : ℕ) → k < rank_of K → transpose_of K k ≡ Some t → Symmetric K → t ≡ k
+transpose_in_symmetric K g k t l e h =
     let p = pair_of_class-holds K g k l in
-    sym (every (pair_of_class K k).0 (pair_of_class K k).1 p.row p.column p.colour) ∙ sym (h.turned (pair_of_class K k).0 (pair_of_class K k).1 p.row p.column) ∙ p.colour
+    let is : colour_at K (pair_of_class K k).1 (pair_of_class K k).0 ≡ t = let z : Some (colour_at K (pair_of_class K k).1 (pair_of_class K k).0) ≡ Some t = ap (option_map (λ q. colour_at K q.1 q.0)) (sym (first_pair_some K g k l)) ∙ e in cc in
+    sym is ∙ sym (h.turned (pair_of_class K k).0 (pair_of_class K k).1 p.row p.column) ∙ p.colour
+
+-- the lemmas of the two tests that look at each class
+pub ruleset commutative_steps = (commutes_before_none, commutes_before_more, commutative_from_each, commutes_at_each)
+
+pub ruleset symmetric_steps = (symmetric_from_each, transpose_in_symmetric)
 
 -- in a homogeneous configuration each point sees a class as often as its valency says
 pub row_count-homogeneous : (K : PairColouring) → IsConfiguration K → Homogeneous K → (x k : ℕ) → x < K.size → k < rank_of K → row_count K x k ≡ valency_of K k

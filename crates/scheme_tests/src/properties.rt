@@ -53,6 +53,7 @@ fn is_homogeneous(k: &Constants) -> bool
     true
 }
 
+#[tactic(auto, using(crate::proofs::TestLemmas::symmetric_steps))]
 fn is_symmetric(k: &Constants) -> bool
     ensures { IsTrue result ↔ Symmetric k.now }
 {
@@ -64,6 +65,7 @@ fn is_symmetric(k: &Constants) -> bool
     true
 }
 
+#[tactic(auto, using(crate::proofs::TestLemmas::commutative_steps))]
 fn is_commutative(k: &Constants) -> bool
     ensures { IsTrue result ↔ Commutative k.now }
 {

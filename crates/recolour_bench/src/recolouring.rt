@@ -107,7 +107,7 @@ fn joined(alloc: Global, colouring: &Colouring, keep: u32, gone: u32) -> Result<
     Ok(next)
 }
 
-/// What the edit makes of a colouring with its closure.
+// What the edit makes of a colouring with its closure.
 pub(crate) fn edited_by(
     alloc: Global,
     colouring: &Colouring,

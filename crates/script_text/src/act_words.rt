@@ -17,8 +17,8 @@ use crate::word_numbers::{number, numbers, three_numbers, two_numbers};
 use pair_colours::Numbers;
 use std::alloc::Global;
 
-/// What the words of a line ask for, by the first and the others.
-pub fn act_of(alloc: Global, first: &[u8], others: &[&[u8]]) -> Result<Act, LineFault>
+// What the words of a line ask for, by the first and the others.
+pub(crate) fn act_of(alloc: Global, first: &[u8], others: &[&[u8]]) -> Result<Act, LineFault>
     requires few { length others.now < 2 ^ 32 }
     requires ascii { All (λ word. IsAscii word.now) others.now }
     ensures ok { IfOk result (AsksFor (first.now ∷ texts others.now)) }

@@ -23,7 +23,7 @@ impl Model for Name {
 }
 
 impl Name {
-    /// The name that is spelled so.
+    // The name that is spelled so.
     pub(crate) fn from_ascii(alloc: Global, bytes: &[u8]) -> Result<Name, LineFault>
         requires { IsAscii bytes.now }
         ensures ok { IfOk result (λ name. name ≡ bytes.now) }

@@ -39,18 +39,18 @@ pub enum ScriptFault {
     NoMemory,
 }
 
-/// Why one line was not read.
+// Why one line was not read.
 #[derive(Clone, Copy, Debug, PartialEq, Eq)]
-pub enum LineFault {
-    /// The first test that it fails.
+pub(crate) enum LineFault {
+    // The first test that it fails.
     Word(ScriptWord),
-    /// There is not enough memory.
+    // There is not enough memory.
     NoMemory,
 }
 
 impl LineFault {
-    /// The fault as that of a script, on the line with this number.
-    pub fn at_line(self, line: u32) -> ScriptFault
+    // The fault as that of a script, on the line with this number.
+    pub(crate) fn at_line(self, line: u32) -> ScriptFault
         ensures { result ≡ at_line line self }
     {
         match self {

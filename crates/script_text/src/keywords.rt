@@ -5,9 +5,9 @@ ghost use Rattle.script_text.specs.Answers.{texts};
 ghost use Rattle.script_text.specs.Keyword.{spelling, allows, has_unknown_word};
 ghost use Rattle.script_text.specs.declared.keywords.Keyword.{Keyword};
 
-/// The first word of a line.
+// The first word of a line.
 #[derive(Clone, Copy, Debug, PartialEq, Eq)]
-pub enum Keyword {
+pub(crate) enum Keyword {
     Set,
     Both,
     Fix,
@@ -34,8 +34,8 @@ pub enum Keyword {
     Write,
 }
 
-/// The keyword that a word is, if it is one.
-pub fn keyword_of(word: &[u8]) -> Option<Keyword>
+// The keyword that a word is, if it is one.
+pub(crate) fn keyword_of(word: &[u8]) -> Option<Keyword>
     ensures found { IfSome result (λ keyword. word.now ≡ spelling keyword) }
     ensures none { IfNone result ((keyword : Keyword) → word.now ≢ spelling keyword) }
 {
@@ -68,8 +68,8 @@ pub fn keyword_of(word: &[u8]) -> Option<Keyword>
     }
 }
 
-/// Whether so many words may follow the keyword.
-pub fn allows(keyword: Keyword, count: usize) -> bool
+// Whether so many words may follow the keyword.
+pub(crate) fn allows(keyword: Keyword, count: usize) -> bool
     ensures { result ≡ allows keyword count }
 {
     match keyword {
@@ -83,8 +83,8 @@ pub fn allows(keyword: Keyword, count: usize) -> bool
     }
 }
 
-/// Whether another word stands in the place of `after`, or of the name of a graph format.
-pub fn has_unknown_word(keyword: Keyword, words: &[&[u8]]) -> bool
+// Whether another word stands in the place of `after`, or of the name of a graph format.
+pub(crate) fn has_unknown_word(keyword: Keyword, words: &[&[u8]]) -> bool
     ensures { result ≡ has_unknown_word keyword (texts words.now) }
 {
     match (keyword, words) {

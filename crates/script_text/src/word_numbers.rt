@@ -11,8 +11,8 @@ use pair_colours::Numbers;
 use std::alloc::Global;
 use text_lines::read_number;
 
-/// The number that a word is.
-pub fn number(word: &[u8]) -> Result<u32, LineFault>
+// The number that a word is.
+pub(crate) fn number(word: &[u8]) -> Result<u32, LineFault>
     ensures ok { IfOk result (IsNumberForm word.now) }
     ensures err { IfErr result (IsFailed ScriptWord.BadNumber (not (is_number word.now))) }
 {
@@ -22,8 +22,8 @@ pub fn number(word: &[u8]) -> Result<u32, LineFault>
     }
 }
 
-/// The numbers that two words are.
-pub fn two_numbers(words: &[&[u8]]) -> Result<(u32, u32), LineFault>
+// The numbers that two words are.
+pub(crate) fn two_numbers(words: &[&[u8]]) -> Result<(u32, u32), LineFault>
     requires { length words.now ≡ 2 }
     ensures ok { IfOk result (λ n. AllZip IsNumberForm (texts words.now) (n.0 ∷ n.1 ∷ [])) }
     ensures err { IfErr result (IsFailed ScriptWord.BadNumber (not (list_all is_number (texts words.now)))) }
@@ -31,8 +31,8 @@ pub fn two_numbers(words: &[&[u8]]) -> Result<(u32, u32), LineFault>
     Ok((number(words[0])?, number(words[1])?))
 }
 
-/// The numbers that three words are.
-pub fn three_numbers(words: &[&[u8]]) -> Result<(u32, u32, u32), LineFault>
+// The numbers that three words are.
+pub(crate) fn three_numbers(words: &[&[u8]]) -> Result<(u32, u32, u32), LineFault>
     requires { length words.now ≡ 3 }
     ensures ok { IfOk result (λ n. AllZip IsNumberForm (texts words.now) (n.0 ∷ n.1 ∷ n.2 ∷ [])) }
     ensures err { IfErr result (IsFailed ScriptWord.BadNumber (not (list_all is_number (texts words.now)))) }
@@ -40,8 +40,8 @@ pub fn three_numbers(words: &[&[u8]]) -> Result<(u32, u32, u32), LineFault>
     Ok((number(words[0])?, number(words[1])?, number(words[2])?))
 }
 
-/// The numbers that some words are.
-pub fn numbers(alloc: Global, words: &[&[u8]]) -> Result<Numbers, LineFault>
+// The numbers that some words are.
+pub(crate) fn numbers(alloc: Global, words: &[&[u8]]) -> Result<Numbers, LineFault>
     requires { length words.now < 2 ^ 32 }
     ensures ok { IfOk result (AllZip IsNumberForm (texts words.now)) }
     ensures err { IfErr result (IsFailed ScriptWord.BadNumber (not (list_all is_number (texts words.now)))) }

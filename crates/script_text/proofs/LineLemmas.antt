@@ -48,13 +48,7 @@ no_comment Mergings = refl
 no_comment Trace = refl
 no_comment Write = refl
 
--- words that ask for an act ask for something
-pub act_asks : (words : List (List ℕ)) (act : Act) → AsksFor words act → asks words ≡ true
-act_asks words act h =
-    let k = known words act h in
-    ap asks k.words_are ∙ rw (no_comment k.keyword) refl
-
--- they pass their tests
+-- words that ask for an act pass their tests
 pub act_passes : (words : List (List ℕ)) (act : Act) → AsksFor words act → first_failed (word_tests words) ≡ None
 act_passes words act h =
     let k = known words act h in

@@ -1,15 +1,15 @@
 -- The words of a line, and the bytes that they are of.
-use Rattle.std.proofs.Common.{◌≡◌, ℕ, suc, ◌+◌, ◌^◌, ◌<◌, ◌≤◌, Bool, true, false, cond, not, eqb, leb, List, [], ◌∷◌, length, map, refl, sym, ap, ◌∙◌, subst, ⊎_elim, arith}
-use Rattle.std.specs.Prelude.{filter, All}
+use Rattle.std.proofs.Common.{◌≡◌, ℕ, suc, ◌+◌, ◌^◌, ◌<◌, ◌≤◌, Bool, true, false, not, eqb, leb, List, [], ◌∷◌, length, map, refl, sym, ap, ◌∙◌, subst, ⊎_elim, arith}
+use Rattle.std.specs.Prelude.{All}
 use Rattle.std.specs.Borrow.{Bor}
 use Rattle.std.specs.List.{slice_split, list_all}
 use Rattle.std.specs.Str.{IsAscii}
 use Rattle.std.proofs.Math.ListN.{length-map}
-use Rattle.std.proofs.lemmas.Bool.{and_parts, or_cases, eqb-true, leb-true, cases_lt}
-use Rattle.std.proofs.lemmas.List.{get_or_past}
+use Rattle.std.proofs.lemmas.Bool.{and_parts, or_cases, eqb-true, leb-true}
 use Rattle.std.proofs.lemmas.List.Elements.{All-nil, All-cons, All-head, All-tail, All-weaker}
 use Rattle.std.proofs.lemmas.List.Splits.{length-slice_split}
-use Rattle.std.proofs.lemmas.List.Sums.{count_by-le-length, AllPass-from_list_all}
+use Rattle.std.proofs.lemmas.List.Sums.{count_by-le-length, length-filter, AllPass-from_list_all}
+use Rattle.std.proofs.lemmas.Str.Ascii.{IsAscii-from_all}
 use Rattle.text_lines.specs.Part.{Part, placed}
 use Rattle.text_lines.specs.Words.{is_blank_byte, words_of}
 use Rattle.text_lines.proofs.WordBytes.{words_from-bytes}
@@ -24,9 +24,6 @@ words_below : (line : Part) → list_all is_script_byte line.bytes ≡ true → 
 words_below line h = words_from-bytes (λ b. b < 128) line.start line.bytes
     (All-weaker (λ b. is_script_byte b ≡ true) (λ b. is_blank_byte b ≡ false → b < 128) (λ b e _. script_byte_ascii b e) line.bytes (AllPass-from_list_all is_script_byte line.bytes h))
 
-ascii_from : (bytes : List ℕ) → All (λ b. b < 128) bytes → IsAscii bytes
-ascii_from bytes all = λ i. ⊎_elim (λ (inside : i < length bytes). all i 0 inside) (λ (past : length bytes ≤ i). subst (λ b. b < 128) (sym (get_or_past bytes i 0 past)) (omega arith)) (cases_lt i (length bytes))
-
 words_ascii : (words : List (Bor (List ℕ))) (parts : List Part) → texts words ≡ map (λ word. word.bytes) parts → All (λ word. All (λ b. b < 128) word.bytes) parts
     → All (λ word. IsAscii word.now) words
 words_ascii [] parts e all = All-nil (λ (word : Bor (List ℕ)). IsAscii word.now)
@@ -35,24 +32,19 @@ words_ascii (word ∷ words) (part ∷ parts) e all =
     let heads : word.now ≡ part.bytes = cc in
     let tails : texts words ≡ map (λ w. w.bytes) parts = cc in
     All-cons (λ (w : Bor (List ℕ)). IsAscii w.now) word words
-    (subst (λ bs. IsAscii bs) (sym heads) (ascii_from part.bytes (All-head (λ (w : Part). All (λ b. b < 128) w.bytes) part parts all)))
+    (subst (λ bs. IsAscii bs) (sym heads) (IsAscii-from_all part.bytes (All-head (λ (w : Part). All (λ b. b < 128) w.bytes) part parts all)))
     (words_ascii words parts tails (All-tail (λ (w : Part). All (λ b. b < 128) w.bytes) part parts all))
 
 length-placed : (start : ℕ) (parts : List (List ℕ)) → length (placed start parts) ≡ length parts
 length-placed start [] = refl
 length-placed start (part ∷ parts) = ap (λ n. suc n) (length-placed (start + length part + 1) parts)
 
-length-filter-le : {X : Type 0} (test : X → Bool) (xs : List X) → length (filter test xs) ≤ length xs
-length-filter-le test [] = omega arith
-length-filter-le test (x ∷ xs) =
-    let rest = length-filter-le test xs in
-    elim (test x) as (λ b. length (cond b (x ∷ filter test xs) (filter test xs)) ≤ suc (length xs)) [ true ↦ omega arith | false ↦ omega arith ]
-
 -- a line has at most one word more than it has bytes
 pub few_words : (line : Part) → length (words_of line) ≤ length line.bytes + 1
 few_words line =
     let parts = slice_split is_blank_byte line.bytes in
-    omega (arith, length-filter-le (λ (word : Part). not (eqb (length word.bytes) 0)) (placed line.start parts), length-placed line.start parts, length-slice_split is_blank_byte line.bytes, count_by-le-length is_blank_byte line.bytes)
+    let kept : Part → Bool = λ word. not (eqb (length word.bytes) 0) in
+    omega (arith, length-filter kept (placed line.start parts), count_by-le-length kept (placed line.start parts), length-placed line.start parts, length-slice_split is_blank_byte line.bytes, count_by-le-length is_blank_byte line.bytes)
 
 -- the words of a line behind the first
 pub record AreOthers (line first : Part) (rest : List Part) (others : List (Bor (List ℕ))) : Type 0 where

@@ -54,7 +54,8 @@ pub enum GraphForm {
     Digraph6,
 }
 
-/// What one line asks for.
+/// What one line asks for. A growth string gives each class the number of its block: the first is
+/// 0, and each new block has the next number (Knuth, The Art of Computer Programming 4A, 7.2.1.5).
 #[derive(Drop)]
 pub enum Act {
     /// Recolours the pair (x, y).
@@ -110,7 +111,7 @@ pub enum Act {
 /// A line that asks for something.
 #[derive(Drop)]
 pub struct Line {
-    /// Its place in the text, counted from 1.
+    /// The number of its line, counted from 1; blank lines and comments count.
     pub number: u32,
     /// What it asks for.
     pub act: Act,

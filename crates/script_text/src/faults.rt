@@ -10,7 +10,7 @@ use thiserror::Error;
 /// The word for a line that is refused, in the order in which one line is tested.
 #[derive(Clone, Copy, Debug, PartialEq, Eq)]
 pub enum ScriptWord {
-    /// The script has a line past its last allowed one.
+    /// The script has more than 10,000 lines.
     TooManyLines,
     /// A byte that is neither a tab nor a printable character of ASCII.
     BadByte,

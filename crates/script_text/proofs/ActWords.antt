@@ -18,10 +18,10 @@ use Rattle.script_text.specs.declared.faults.LineFault.TheVariants.{Word, NoMemo
 use Rattle.script_text.specs.declared.faults.ScriptWord.TheVariants.{UnknownWord, WrongCount, BadLimit}
 use Rattle.script_text.specs.declared.keywords.Keyword.{Keyword}
 use Rattle.script_text.specs.declared.keywords.Keyword.TheVariants.{Mergings, Write}
-use Rattle.script_text.specs.Answers.{texts, IsFailed, IsFirstFailed}
+use Rattle.script_text.specs.Answers.{texts, IsFaultWhere, IsFirstFault}
 use Rattle.script_text.specs.Grammar.{AsksFor, AreSome, IsLimit}
 use Rattle.script_text.specs.Keyword.{spelling, allows, has_unknown_word}
-use Rattle.script_text.specs.LineFaults.{is_beyond_limit, content_tests, keyword_tests, word_tests, first_failed}
+use Rattle.script_text.specs.LineFaults.{is_beyond_limit, content_tests, keyword_tests, word_tests, first_fault}
 use Rattle.script_text.proofs.NumberForms.{forms_all, forms_length}
 use Rattle.script_text.proofs.KeywordTests.{word_tests-spelling}
 
@@ -47,16 +47,16 @@ tests_are : (first : List ℕ) (keyword : Keyword) (others : List (List ℕ)) �
 tests_are first keyword others e = ap (λ w. word_tests (w ∷ others)) e ∙ word_tests-spelling keyword others
 
 pub unknown_word : (first : List ℕ) (keyword : Keyword) (others : List (List ℕ)) → first ≡ spelling keyword → has_unknown_word keyword others ≡ true
-    → first_failed (word_tests (first ∷ others)) ≡ Some UnknownWord
-unknown_word first keyword others e known = ap first_failed (tests_are first keyword others e) ∙ rw known refl
+    → first_fault (word_tests (first ∷ others)) ≡ Some UnknownWord
+unknown_word first keyword others e known = ap first_fault (tests_are first keyword others e) ∙ rw known refl
 
 pub wrong_count : (first : List ℕ) (keyword : Keyword) (others : List (List ℕ)) → first ≡ spelling keyword → has_unknown_word keyword others ≡ false
-    → allows keyword (length others) ≡ false → first_failed (word_tests (first ∷ others)) ≡ Some WrongCount
-wrong_count first keyword others e known count = ap first_failed (tests_are first keyword others e) ∙ rw (known, count) refl
+    → allows keyword (length others) ≡ false → first_fault (word_tests (first ∷ others)) ≡ Some WrongCount
+wrong_count first keyword others e known count = ap first_fault (tests_are first keyword others e) ∙ rw (known, count) refl
 
 pub content_fails : (first : List ℕ) (keyword : Keyword) (others : List (List ℕ)) → first ≡ spelling keyword → has_unknown_word keyword others ≡ false
-    → allows keyword (length others) ≡ true → (fault : LineFault) → IsFirstFailed (content_tests keyword others) fault → IsFirstFailed (word_tests (first ∷ others)) fault
-content_fails first keyword others e known count (Word what) h = ap first_failed (tests_are first keyword others e) ∙ rw (known, count) h
+    → allows keyword (length others) ≡ true → (fault : LineFault) → IsFirstFault (content_tests keyword others) fault → IsFirstFault (word_tests (first ∷ others)) fault
+content_fails first keyword others e known count (Word what) h = ap first_fault (tests_are first keyword others e) ∙ rw (known, count) h
 content_fails first keyword others e known count NoMemory h = tt
 
 -- a number, and one or more behind it
@@ -97,7 +97,7 @@ mergings_after (word ∷ next ∷ words) d most after known many form forms act 
 
 -- `mergings` with a number that is out of range, and behind it only numbers
 pub mergings_beyond : (words : List (Bor (List ℕ))) (d : Bor (List ℕ)) (most : ℕ) (after : List ℕ) → 1 ≤ length words → IsNumberForm (get_or words 0 d).now most
-    → AllZip IsNumberForm (texts (drop 2 words)) after → (fault : LineFault) → IsFailed BadLimit (is_beyond_limit most) fault → IsFirstFailed (content_tests Mergings (texts words)) fault
+    → AllZip IsNumberForm (texts (drop 2 words)) after → (fault : LineFault) → IsFaultWhere BadLimit (is_beyond_limit most) fault → IsFirstFault (content_tests Mergings (texts words)) fault
 mergings_beyond [] d most after many form forms fault h = absurd (omega arith)
 mergings_beyond (word ∷ words) d most after many form forms NoMemory h = tt
 mergings_beyond (word ∷ []) d most after many form forms (Word what) h = rw (number_of-form word.now most form, h.1, h.0) refl

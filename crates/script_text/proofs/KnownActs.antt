@@ -1,4 +1,4 @@
--- Which act the words of a line ask for: at most one, and one where they fail no test.
+-- Which act the words of a line ask for: at most one, and one where no test of them holds.
 use Rattle.std.proofs.Common.{◌≡◌, ℕ, suc, ◌<◌, ◌≤◌, true, false, cond, not, leb, ltb, eqb, List, [], ◌∷◌, ◌++◌, length, get_or, drop, map, Some, None, bytes_eq, refl, sym, ap, ◌∙◌, subst, ⊎_elim, arith}
 use Rattle.std.specs.Prelude.{codes}
 use Rattle.std.specs.List.{AllZip, list_all}
@@ -54,7 +54,7 @@ act_with Mergings others = acts.Mergings (number_at others 0) (cond (leb (length
 act_with Trace others = acts.Trace
 act_with Write others = acts.Write (cond (bytes_eq (word_at others 0) (codes "graph6")) Graph6 Digraph6) (map value (drop 1 others))
 
--- the words of a line that asks for an act: its keyword, and words behind it that fail no test and fix the act
+-- the words of a line that asks for an act: its keyword, and words behind it of which no test holds and which fix the act
 pub record IsKnown (words : List (List ℕ)) (act : Act) : Type 0 where
   pub keyword : Keyword
   pub others : List (List ℕ)
@@ -291,7 +291,7 @@ limit_passed word others number e =
     let positive : value word ≡ 0 → ⊥ = eqb-false (value word) 0 parts.0 in
     (omega arith, ltb-false 10000 (value word) parts.1)
 
--- words that fail no test ask for the act of their keyword
+-- words of which no test holds ask for the act of their keyword
 pub asked : (keyword : Keyword) (others : List (List ℕ)) → Passes keyword others → AsksFor (spelling keyword ∷ others) (act_with keyword others)
 asked Set others p = (refl, subst (λ ns. AllZip IsNumberForm others ns) (sym (three_numbers (map value others) (rw length-map p.count))) (all_numbers others p.numbers))
 asked Both others p = (refl, subst (λ ns. AllZip IsNumberForm others ns) (sym (three_numbers (map value others) (rw length-map p.count))) (all_numbers others p.numbers))

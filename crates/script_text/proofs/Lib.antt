@@ -1,7 +1,7 @@
 pub mod NumberForms
 pub mod KeywordTests
 pub mod KnownActs
-pub mod FailedWords
+pub mod FaultyWords
 pub mod ActWords
 pub mod LineWords
 pub mod LineLemmas

@@ -13,12 +13,12 @@ use Rattle.script_text.specs.declared.faults.ScriptWord.{ScriptWord}
 use Rattle.script_text.specs.declared.faults.ScriptWord.TheVariants.{TooManyLines, BadByte, UnknownWord, TooManyProducts}
 use Rattle.script_text.specs.declared.keywords.Keyword.{Keyword}
 use Rattle.script_text.specs.declared.keywords.Keyword.TheVariants.{Set, Both, Fix, Join, Adopt, Fuse, Direct, Wreath, Undo, Redo, Show, Raw, Classes, Constants, Tests, Array, Closed, Quotient, Sub, Close, Good, Mergings, Trace, Write}
-use Rattle.script_text.specs.Answers.{IsFirstFailed, IsRead, adds_product}
+use Rattle.script_text.specs.Answers.{IsFirstFault, IsRead, adds_product}
 use Rattle.script_text.specs.Grammar.{AsksFor}
 use Rattle.script_text.specs.Keyword.{spelling, keyword_of, names_file}
-use Rattle.script_text.specs.LineFaults.{word_texts, asks, is_script_byte, keyword_tests, word_tests, text_tests, line_tests, starts_product, is_product, first_failed}
+use Rattle.script_text.specs.LineFaults.{word_texts, asks, is_script_byte, keyword_tests, word_tests, text_tests, line_tests, starts_product, is_product, first_fault}
 use Rattle.script_text.specs.Script.{takes_product}
-use Rattle.script_text.proofs.KeywordTests.{keyword_of-spelling, spelling-keyword_of, word_tests-spelling, none_failed, passes_all}
+use Rattle.script_text.proofs.KeywordTests.{keyword_of-spelling, spelling-keyword_of, word_tests-spelling, no_fault, passes_all}
 use Rattle.script_text.proofs.KnownActs.{known, asked, act_with}
 
 -- no keyword begins a comment
@@ -49,10 +49,10 @@ no_comment Trace = refl
 no_comment Write = refl
 
 -- words that ask for an act pass their tests
-pub act_passes : (words : List (List ℕ)) (act : Act) → AsksFor words act → first_failed (word_tests words) ≡ None
+pub act_passes : (words : List (List ℕ)) (act : Act) → AsksFor words act → first_fault (word_tests words) ≡ None
 act_passes words act h =
     let k = known words act h in
-    ap (λ ws. first_failed (word_tests ws)) k.words_are ∙ ap first_failed (word_tests-spelling k.keyword k.others) ∙ none_failed k.keyword k.others k.passes
+    ap (λ ws. first_fault (word_tests ws)) k.words_are ∙ ap first_fault (word_tests-spelling k.keyword k.others) ∙ no_fault k.keyword k.others k.passes
 
 -- and multiply by a file's relation where the act does
 pub act_product : (words : List (List ℕ)) (act : Act) → AsksFor words act → starts_product words ≡ takes_product act
@@ -72,20 +72,20 @@ silent_product (first ∷ words) h = go (keyword_of first) refl
         absurd (both_ways _ (ap (λ w. eqb (get_or w 0 0) 35) spelled ∙ no_comment keyword) (not-false _ h))
 
 -- words that ask for something and pass their tests ask for an act
-pub passing_act : (words : List (List ℕ)) → asks words ≡ true → first_failed (word_tests words) ≡ None → (act : Act) × AsksFor words act
+pub passing_act : (words : List (List ℕ)) → asks words ≡ true → first_fault (word_tests words) ≡ None → (act : Act) × AsksFor words act
 passing_act [] h e = absurd (false≢true h)
 passing_act (first ∷ words) h e = go (keyword_of first) refl e
   where
     go : (o : Option Keyword) → keyword_of first ≡ o
-        → first_failed (option_map_or (λ keyword. keyword_tests keyword words) o ((UnknownWord, true) ∷ [])) ≡ None → (act : Act) × AsksFor (first ∷ words) act
+        → first_fault (option_map_or (λ keyword. keyword_tests keyword words) o ((UnknownWord, true) ∷ [])) ≡ None → (act : Act) × AsksFor (first ∷ words) act
     go None q f = cc
     go (Some keyword) q f =
         let spelled = spelling-keyword_of first keyword q in
         (act_with keyword words, subst (λ w. AsksFor (w ∷ words) (act_with keyword words)) (sym spelled) (asked keyword words (passes_all keyword words f)))
 
 -- tests one after the other
-either_failed : (xs ys : List (ScriptWord × Bool)) → first_failed (xs ++ ys) ≡ option_or (first_failed xs) (first_failed ys)
-either_failed xs ys = ap (option_map (λ test. test.0)) (find-append (λ test. test.1) xs ys) ∙ mapped (find (λ test. test.1) xs) (find (λ test. test.1) ys)
+either_fault : (xs ys : List (ScriptWord × Bool)) → first_fault (xs ++ ys) ≡ option_or (first_fault xs) (first_fault ys)
+either_fault xs ys = ap (option_map (λ test. test.0)) (find-append (λ test. test.1) xs ys) ∙ mapped (find (λ test. test.1) xs) (find (λ test. test.1) ys)
   where
     mapped : (a b : Option (ScriptWord × Bool)) → option_map (λ test. test.0) (option_or a b) ≡ option_or (option_map (λ test. test.0) a) (option_map (λ test. test.0) b)
     mapped None b = refl
@@ -94,33 +94,33 @@ either_failed xs ys = ap (option_map (λ test. test.0)) (find-append (λ test. t
 -- what a line that passes its own tests is
 pub record IsFine (line : Part) : Type 0 where
   pub bytes : list_all is_script_byte line.bytes ≡ true
-  pub words : asks (word_texts line) ≡ true → first_failed (word_tests (word_texts line)) ≡ None
+  pub words : asks (word_texts line) ≡ true → first_fault (word_tests (word_texts line)) ≡ None
 
-pub fine_passes : (line : Part) → IsFine line → first_failed (text_tests line) ≡ None
+pub fine_passes : (line : Part) → IsFine line → first_fault (text_tests line) ≡ None
 fine_passes line h = rw h.bytes (go (asks (word_texts line)) h.words)
   where
-    go : (b : Bool) → (b ≡ true → first_failed (word_tests (word_texts line)) ≡ None) → first_failed (cond b (word_tests (word_texts line)) []) ≡ None
+    go : (b : Bool) → (b ≡ true → first_fault (word_tests (word_texts line)) ≡ None) → first_fault (cond b (word_tests (word_texts line)) []) ≡ None
     go true f = f refl
     go false f = refl
 
-pub passing_fine : (line : Part) → first_failed (text_tests line) ≡ None → IsFine line
+pub passing_fine : (line : Part) → first_fault (text_tests line) ≡ None → IsFine line
 passing_fine line e = go (list_all is_script_byte line.bytes) (asks (word_texts line)) refl refl e
   where
     go : (a b : Bool) → list_all is_script_byte line.bytes ≡ a → asks (word_texts line) ≡ b
-        → first_failed ((BadByte, not a) ∷ cond b (word_tests (word_texts line)) []) ≡ None → IsFine line
+        → first_fault ((BadByte, not a) ∷ cond b (word_tests (word_texts line)) []) ≡ None → IsFine line
     go false b p q f = cc
     go true true p q f = record { bytes = p; words = λ _. f }
     go true false p q f = record { bytes = p; words = λ h. absurd (both_ways _ q h) }
 
--- a line of which the words fail a test
+-- a line of whose words a test holds
 pub words_fail : (words others : List (List ℕ)) (first : List ℕ) → words ≡ first ∷ others → eqb (get_or first 0 0) 35 ≡ false
-    → (fault : LineFault) → IsFirstFailed (word_tests (first ∷ others)) fault → (asks words ≡ true) × IsFirstFailed (word_tests words) fault
+    → (fault : LineFault) → IsFirstFault (word_tests (first ∷ others)) fault → (asks words ≡ true) × IsFirstFault (word_tests words) fault
 words_fail words others first e comment fault h =
-    let P : List (List ℕ) → Type 0 = λ ws. (asks ws ≡ true) × IsFirstFailed (word_tests ws) fault in
+    let P : List (List ℕ) → Type 0 = λ ws. (asks ws ≡ true) × IsFirstFault (word_tests ws) fault in
     subst P (sym e) (not_from_false _ comment, h)
 
 pub text_fails : (line : Part) → list_all is_script_byte line.bytes ≡ true → (fault : LineFault)
-    → (asks (word_texts line) ≡ true) × IsFirstFailed (word_tests (word_texts line)) fault → IsFirstFailed (text_tests line) fault
+    → (asks (word_texts line) ≡ true) × IsFirstFault (word_tests (word_texts line)) fault → IsFirstFault (text_tests line) fault
 text_fails line bytes (Word what) h = rw (bytes, h.0) h.1
 text_fails line bytes NoMemory h = tt
 
@@ -137,50 +137,50 @@ read_product line (Some act) h = act_product (word_texts line) act h.asked.1
 abbrev product_tests : ℕ → Part → List (ScriptWord × Bool)
 product_tests products line = (TooManyProducts, is_product line && ltb 64 products) ∷ []
 
--- within the limit of lines, a line fails by itself or by the number of product lines
-line_failed : (number products : ℕ) (line : Part) → number ≤ 10000
-    → first_failed (line_tests number products line) ≡ option_or (first_failed (text_tests line)) (first_failed (product_tests products line))
-line_failed number products line h = rw (le-ltb 10000 number h) (either_failed (text_tests line) (product_tests products line))
+-- within the limit of lines, a line has a fault by itself or by the number of product lines
+line_fault : (number products : ℕ) (line : Part) → number ≤ 10000
+    → first_fault (line_tests number products line) ≡ option_or (first_fault (text_tests line)) (first_fault (product_tests products line))
+line_fault number products line h = rw (le-ltb 10000 number h) (either_fault (text_tests line) (product_tests products line))
 
 pub line_passes : (number products : ℕ) (line : Part) → number ≤ 10000 → IsFine line → (is_product line ≡ true → products ≤ 64)
-    → first_failed (line_tests number products line) ≡ None
+    → first_fault (line_tests number products line) ≡ None
 line_passes number products line h fine few =
-    line_failed number products line h ∙ ap (λ o. option_or o (first_failed (product_tests products line))) (fine_passes line fine) ∙ go (is_product line) few
+    line_fault number products line h ∙ ap (λ o. option_or o (first_fault (product_tests products line))) (fine_passes line fine) ∙ go (is_product line) few
   where
-    go : (b : Bool) → (b ≡ true → products ≤ 64) → first_failed ((TooManyProducts, b && ltb 64 products) ∷ []) ≡ None
+    go : (b : Bool) → (b ≡ true → products ≤ 64) → first_fault ((TooManyProducts, b && ltb 64 products) ∷ []) ≡ None
     go true f = rw (le-ltb 64 products (f refl)) refl
     go false f = refl
 
 pub too_many_products : (number products : ℕ) (line : Part) → number ≤ 10000 → IsFine line → is_product line ≡ true → 64 < products
-    → first_failed (line_tests number products line) ≡ Some TooManyProducts
+    → first_fault (line_tests number products line) ≡ Some TooManyProducts
 too_many_products number products line h fine product many =
-    line_failed number products line h ∙ ap (λ o. option_or o (first_failed (product_tests products line))) (fine_passes line fine)
+    line_fault number products line h ∙ ap (λ o. option_or o (first_fault (product_tests products line))) (fine_passes line fine)
     ∙ rw (product, lt-ltb 64 products many) refl
 
--- a line that fails no test
+-- a line of which no test holds
 pub record IsPassed (number products : ℕ) (line : Part) : Type 0 where
   pub few_lines : number ≤ 10000
   pub fine : IsFine line
   pub few_products : is_product line ≡ true → products ≤ 64
 
-pub passed : (number products : ℕ) (line : Part) → first_failed (line_tests number products line) ≡ None → IsPassed number products line
+pub passed : (number products : ℕ) (line : Part) → first_fault (line_tests number products line) ≡ None → IsPassed number products line
 passed number products line e = go (ltb 10000 number) refl e
   where
     both_none : (a b : Option ScriptWord) → option_or a b ≡ None → (a ≡ None) × (b ≡ None)
     both_none None b f = (refl, f)
     both_none (Some a) b f = cc
 
-    not_product : (b : Bool) → first_failed ((TooManyProducts, b && ltb 64 products) ∷ []) ≡ None → b ≡ true → products ≤ 64
+    not_product : (b : Bool) → first_fault ((TooManyProducts, b && ltb 64 products) ∷ []) ≡ None → b ≡ true → products ≤ 64
     not_product false f h = absurd (false≢true h)
     not_product true f h = ltb-false 64 products (untested (ltb 64 products) f)
       where
-        untested : (b : Bool) → first_failed ((TooManyProducts, b) ∷ []) ≡ None → b ≡ false
+        untested : (b : Bool) → first_fault ((TooManyProducts, b) ∷ []) ≡ None → b ≡ false
         untested true f = cc
         untested false f = refl
 
     go : (b : Bool) → ltb 10000 number ≡ b
-        → first_failed ((TooManyLines, b) ∷ text_tests line ++ product_tests products line) ≡ None → IsPassed number products line
+        → first_fault ((TooManyLines, b) ∷ text_tests line ++ product_tests products line) ≡ None → IsPassed number products line
     go true q f = cc
     go false q f =
-        let parts = both_none _ _ (sym (either_failed (text_tests line) (product_tests products line)) ∙ f) in
+        let parts = both_none _ _ (sym (either_fault (text_tests line) (product_tests products line)) ∙ f) in
         record { few_lines = ltb-false 10000 number q; fine = passing_fine line parts.0; few_products = not_product (is_product line) parts.1 }

@@ -11,7 +11,7 @@ use Rattle.script_text.specs.declared.acts.Act.{Act}
 use Rattle.script_text.specs.declared.acts.Line.{Line}
 use Rattle.script_text.specs.declared.faults.ScriptWord.{ScriptWord}
 use Rattle.script_text.specs.Answers.{IsRead, IsReadAt}
-use Rattle.script_text.specs.LineFaults.{word_texts, asks, is_script_byte, is_product, word_tests, line_tests, first_failed, faults_of}
+use Rattle.script_text.specs.LineFaults.{word_texts, asks, is_script_byte, is_product, word_tests, line_tests, first_fault, faults_of}
 use Rattle.script_text.specs.Script.{asking_lines, IsLine, AreScript, product_count, ScriptIsUnique, ScriptOrFault, ScriptHasNoFault}
 use Rattle.script_text.proofs.KnownActs.{one_act}
 use Rattle.script_text.proofs.LineLemmas.{IsPassed, act_passes, passing_act, passed, line_passes, read_product}
@@ -48,16 +48,16 @@ allowed_at [] line rest h = h.0
 allowed_at (d ∷ done) line rest h = allowed_at done line rest h.1
 
 asked_at : (done : List Part) (line : Part) (rest : List Part) (script : List Line) → AreScript (done ++ line ∷ rest) script → asks (word_texts line) ≡ true
-    → first_failed (word_tests (word_texts line)) ≡ None
+    → first_fault (word_tests (word_texts line)) ≡ None
 asked_at done line rest script h e =
     let whole : asking_lines (done ++ line ∷ rest) ≡ asking_lines done ++ (length done + 1, word_texts line) ∷ asking_from (length done + 1 + 1) rest =
     asking_lines-append done (line ∷ rest) ∙ ap (λ ls. asking_lines done ++ ls) (asking_first (length done + 1) line rest e) in
     let one = zip_at (asking_lines done) (length done + 1, word_texts line) (asking_from (length done + 1 + 1) rest) script (subst (λ ls. AllZip IsLine ls script) whole h.asked) in
     act_passes (word_texts line) one.0.act one.1.act
 
--- a line of a script fails no test
+-- no test holds of a line of a script
 script_passes : (done : List Part) (line : Part) (rest : List Part) (script : List Line) → AreScript (done ++ line ∷ rest) script
-    → first_failed (line_tests (length done + 1) (count_by is_product done + weight line) line) ≡ None
+    → first_fault (line_tests (length done + 1) (count_by is_product done + weight line) line) ≡ None
 script_passes done line rest script h =
     let few = h.few_lines in
     let products : count_by is_product done + (weight line + count_by is_product rest) ≤ 64 =
@@ -78,7 +78,7 @@ no_faults done (line ∷ rest) script h =
 pub script_has_no_fault : ScriptHasNoFault
 script_has_no_fault text script h = ap (λ faults. slice_get faults 0) (faults_of-from (lines_of text) ∙ no_faults [] (lines_of text) script h.lines)
 
--- a line that fails no test asks for an act or for nothing
+-- a line of which no test holds asks for an act or for nothing
 passing_line : (number products : ℕ) (line : Part) → IsPassed number (products + 1) line → (act : Option Act) × IsReadAt number products line act
 passing_line number products line h = go (asks (word_texts line)) refl
   where
@@ -98,10 +98,10 @@ passing_line number products line h = go (asks (word_texts line)) refl
 script_or_fault_from : (done rest : List Part) (script : List Line) → AreRead done script → ((s : List Line) × AreScript (done ++ rest) s) ⊎ IsSome (slice_get (faults_of (done ++ rest)) 0)
 script_or_fault_from done [] script h = inl (script, subst (λ ls. AreScript ls script) (sym (append-nil done)) h.is)
 script_or_fault_from done (line ∷ rest) script h =
-    go (first_failed (line_tests (length done + 1) (product_count script + 1) line)) refl
+    go (first_fault (line_tests (length done + 1) (product_count script + 1) line)) refl
     (λ next read. subst (λ ls. ((s : List Line) × AreScript ls s) ⊎ IsSome (slice_get (faults_of ls) 0)) (append_assoc done (line ∷ []) rest) (script_or_fault_from (done ++ line ∷ []) rest next read))
   where
-    go : (o : Option ScriptWord) → first_failed (line_tests (length done + 1) (product_count script + 1) line) ≡ o
+    go : (o : Option ScriptWord) → first_fault (line_tests (length done + 1) (product_count script + 1) line) ≡ o
         → ((next : List Line) → AreRead (done ++ line ∷ []) next → ((s : List Line) × AreScript (done ++ line ∷ rest) s) ⊎ IsSome (slice_get (faults_of (done ++ line ∷ rest)) 0))
         → ((s : List Line) × AreScript (done ++ line ∷ rest) s) ⊎ IsSome (slice_get (faults_of (done ++ line ∷ rest)) 0)
     go (Some what) e rec = inr (ap is_some (found done script line rest what h e))

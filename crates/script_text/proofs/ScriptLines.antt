@@ -14,7 +14,7 @@ use Rattle.script_text.specs.declared.acts.Line.{Line}
 use Rattle.script_text.specs.declared.faults.ScriptWord.{ScriptWord}
 use Rattle.script_text.specs.declared.faults.ScriptWord.TheVariants.{TooManyLines, TooManyProducts}
 use Rattle.script_text.specs.Answers.{IsAskedBy, IsRead, IsReadAt, adds_product}
-use Rattle.script_text.specs.LineFaults.{word_texts, asks, is_script_byte, text_tests, line_tests, is_product, products_to, first_failed, fault_at, faults_of}
+use Rattle.script_text.specs.LineFaults.{word_texts, asks, is_script_byte, text_tests, line_tests, is_product, products_to, first_fault, fault_at, faults_of}
 use Rattle.script_text.specs.Script.{asking_lines, IsLine, takes_product, product_count, AreScript}
 use Rattle.script_text.proofs.LineLemmas.{act_product, silent_product, read_fine, read_product, line_passes}
 
@@ -26,7 +26,7 @@ weight line = cond (is_product line) 1 0
 abbrev pub faults_from : ℕ → ℕ → List Part → List (ℕ × ScriptWord)
 faults_from number products [] = []
 faults_from number products (line ∷ lines) =
-    cons_option (option_map (λ what. (number, what)) (first_failed (line_tests number (products + weight line) line)))
+    cons_option (option_map (λ what. (number, what)) (first_fault (line_tests number (products + weight line) line)))
     (faults_from (number + 1) (products + weight line) lines)
 
 pub count_by-one : (lines : List Part) (line : Part) → count_by is_product (lines ++ line ∷ []) ≡ count_by is_product lines + weight line
@@ -54,9 +54,9 @@ faults_of_rest done (line ∷ rest) =
     subst (λ whole. Rest whole number (count_by is_product done + weight line)) (one_more done rest line)
     (subst (λ n. Rest ((done ++ line ∷ []) ++ rest) n (count_by is_product done + weight line)) (length_push done line)
     (subst (λ p. Rest ((done ++ line ∷ []) ++ rest) (length (done ++ line ∷ [])) p) (count_by-one done line) (faults_of_rest (done ++ line ∷ []) rest))) in
-    ap (λ p. cons_option (option_map (λ what. (number, what)) (first_failed (line_tests number p line))) (filter_map (fault_at (done ++ line ∷ rest)) (enumerate_from (number + 1) rest)))
+    ap (λ p. cons_option (option_map (λ what. (number, what)) (first_fault (line_tests number p line))) (filter_map (fault_at (done ++ line ∷ rest)) (enumerate_from (number + 1) rest)))
     (products_here done rest line)
-    ∙ ap (λ faults. cons_option (option_map (λ what. (number, what)) (first_failed (line_tests number (count_by is_product done + weight line) line))) faults) tail
+    ∙ ap (λ faults. cons_option (option_map (λ what. (number, what)) (first_fault (line_tests number (count_by is_product done + weight line) line))) faults) tail
 
 pub faults_of-from : (lines : List Part) → faults_of lines ≡ faults_from 1 0 lines
 faults_of-from lines = faults_of_rest [] lines
@@ -73,7 +73,7 @@ faults_behind number products [] ys e =
     let p : products ≡ products + 0 = omega arith in
     ap (λ k. faults_from k products ys) n ∙ ap (λ k. faults_from (number + 0) k ys) p
 faults_behind number products (x ∷ xs) ys e =
-    let parts = cons_nil (option_map (λ what. (number, what)) (first_failed (line_tests number (products + weight x) x))) (faults_from (number + 1) (products + weight x) xs) e in
+    let parts = cons_nil (option_map (λ what. (number, what)) (first_fault (line_tests number (products + weight x) x))) (faults_from (number + 1) (products + weight x) xs) e in
     let n : number + 1 + length xs ≡ number + suc (length xs) = omega arith in
     let p : products + weight x + count_by is_product xs ≡ products + count_by is_product (x ∷ xs) = omega (arith, sum_by-cons weight x xs) in
     ap (λ o. cons_option o (faults_from (number + 1) (products + weight x) (xs ++ ys))) parts.0
@@ -209,7 +209,7 @@ pub read_more : (done : List Part) (script : List Line) (line : Part) (act : Opt
 read_more done script line act so_far read =
     let here = read.read in
     let same = products_same done script so_far.is in
-    let passes : first_failed (line_tests (length done + 1) (count_by is_product done + weight line) line) ≡ None =
+    let passes : first_fault (line_tests (length done + 1) (count_by is_product done + weight line) line) ≡ None =
     line_passes (length done + 1) (count_by is_product done + weight line) line read.few_lines (read_fine line act here)
     (λ product. subst (λ n. n ≤ 64) (sym (ap (λ n. n + weight line) same ∙ ap (λ n. product_count script + n) (weight_of line act here)))
     (bit_is (adds_product act) (product_count script) read.few_products (sym (read_product line act here) ∙ product))) in
@@ -228,17 +228,17 @@ same_count : (product : Bool) (products : ℕ) → (product && ltb 64 (products 
 same_count true products = refl
 same_count false products = refl
 
-counted : (number products : ℕ) (line : Part) → first_failed (line_tests number (products + 1) line) ≡ first_failed (line_tests number (products + weight line) line)
+counted : (number products : ℕ) (line : Part) → first_fault (line_tests number (products + 1) line) ≡ first_fault (line_tests number (products + weight line) line)
 counted number products line =
-    ap (λ failed. first_failed ((TooManyLines, ltb 10000 number) ∷ text_tests line ++ (TooManyProducts, failed) ∷ [])) (same_count (is_product line) products)
+    ap (λ failed. first_fault ((TooManyLines, ltb 10000 number) ∷ text_tests line ++ (TooManyProducts, failed) ∷ [])) (same_count (is_product line) products)
 
--- the first line that fails
+-- the first line that has a fault
 pub found : (done : List Part) (script : List Line) (line : Part) (rest : List Part) (what : ScriptWord) → AreRead done script
-    → first_failed (line_tests (length done + 1) (product_count script + 1) line) ≡ Some what → slice_get (faults_of (done ++ line ∷ rest)) 0 ≡ Some (length done + 1, what)
+    → first_fault (line_tests (length done + 1) (product_count script + 1) line) ≡ Some what → slice_get (faults_of (done ++ line ∷ rest)) 0 ≡ Some (length done + 1, what)
 found done script line rest what so_far failed =
     let same = products_same done script so_far.is in
-    let fails : first_failed (line_tests (length done + 1) (count_by is_product done + weight line) line) ≡ Some what =
-    ap (λ n. first_failed (line_tests (length done + 1) (n + weight line) line)) same ∙ sym (counted (length done + 1) (product_count script) line) ∙ failed in
+    let fails : first_fault (line_tests (length done + 1) (count_by is_product done + weight line) line) ≡ Some what =
+    ap (λ n. first_fault (line_tests (length done + 1) (n + weight line) line)) same ∙ sym (counted (length done + 1) (product_count script) line) ∙ failed in
     ap (λ faults. slice_get faults 0)
     (faults_of-from (done ++ line ∷ rest) ∙ faults_next done line rest so_far.clean
     ∙ ap (λ o. cons_option (option_map (λ w. (length done + 1, w)) o) (faults_from (length done + 1 + 1) (count_by is_product done + weight line) rest)) fails)

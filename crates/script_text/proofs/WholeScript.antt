@@ -17,8 +17,8 @@ use Rattle.script_text.specs.declared.faults.LineFault.{LineFault}
 use Rattle.script_text.specs.declared.faults.LineFault.TheVariants.{Word, NoMemory}
 use Rattle.script_text.specs.declared.faults.ScriptFault.TheVariants.{Text}
 use Rattle.script_text.specs.declared.faults.ScriptWord.{ScriptWord}
-use Rattle.script_text.specs.Answers.{IsReadAt, adds_product, IsFirstFailed, at_line}
-use Rattle.script_text.specs.LineFaults.{line_tests, first_failed, faults_of, script_fault}
+use Rattle.script_text.specs.Answers.{IsReadAt, adds_product, IsFirstFault, at_line}
+use Rattle.script_text.specs.LineFaults.{line_tests, first_fault, faults_of, script_fault}
 use Rattle.script_text.specs.Grammar.{AsksFor}
 use Rattle.script_text.specs.Script.{IsLine, IsScript, KeepsLimit, product_count}
 use Rattle.script_text.proofs.ScriptLines.{AreRead, read_more, found, products_more, line_for, faults_of-from}
@@ -76,19 +76,19 @@ pub count_next : (script new : List Line) (number products byte : ℕ) (act : Op
 count_next script new number products byte act product count e f g =
     ap (λ n. n + byte) count ∙ ap (λ n. product_count script + n) (f ∙ byte_of product ∙ ap (λ b. cond b 1 0) e) ∙ sym (products_more script number act) ∙ ap product_count g
 
--- the line that fails is the first
+-- the line that has a fault is the first
 pub fails_at : (text : List ℕ) (place : ℕ) (line : Part) (rest : List Part) (script : List Line) (products : ℕ) (what : ScriptWord) → IsLineAt (lines_of text) place line rest
     → AreRead (take place (lines_of text)) script → products ≡ product_count script
-    → first_failed (line_tests (place + 1) (products + 1) line) ≡ Some what → script_fault text ≡ Some (place + 1, what)
+    → first_fault (line_tests (place + 1) (products + 1) line) ≡ Some what → script_fault text ≡ Some (place + 1, what)
 fails_at text place line rest script products what at so_far count failed =
     let lines = lines_of text in
     let number : length (take place lines) + 1 ≡ place + 1 = ap (λ n. n + 1) at.before in
-    let here : first_failed (line_tests (length (take place lines) + 1) (product_count script + 1) line) ≡ Some what =
-    ap (λ n. first_failed (line_tests n (product_count script + 1) line)) number ∙ ap (λ p. first_failed (line_tests (place + 1) (p + 1) line)) (sym count) ∙ failed in
+    let here : first_fault (line_tests (length (take place lines) + 1) (product_count script + 1) line) ≡ Some what =
+    ap (λ n. first_fault (line_tests n (product_count script + 1) line)) number ∙ ap (λ p. first_fault (line_tests (place + 1) (p + 1) line)) (sym count) ∙ failed in
     ap (λ ls. slice_get (faults_of ls) 0) at.whole ∙ found (take place lines) script line rest what so_far here ∙ ap (λ n. Some (n, what)) number
 
 pub fault_is : (text : List ℕ) (place : ℕ) (line : Part) (rest : List Part) (script : List Line) (products : ℕ) → IsLineAt (lines_of text) place line rest
-    → AreRead (take place (lines_of text)) script → products ≡ product_count script → (fault : LineFault) → IsFirstFailed (line_tests (place + 1) (products + 1) line) fault
+    → AreRead (take place (lines_of text)) script → products ≡ product_count script → (fault : LineFault) → IsFirstFault (line_tests (place + 1) (products + 1) line) fault
     → (number : ℕ) (what : ScriptWord) → at_line (place + 1) fault ≡ Text number what → script_fault text ≡ Some (number, what)
 fault_is text place line rest script products at so_far count (Word found_word) failed number what e =
     let numbers : place + 1 ≡ number = cc in

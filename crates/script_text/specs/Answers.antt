@@ -11,7 +11,7 @@ use Rattle.script_text.specs.declared.faults.ScriptFault.TheVariants as script
 use Rattle.script_text.specs.declared.faults.ScriptWord.{ScriptWord}
 use Rattle.script_text.specs.declared.limits.TheConstants.{MOST_LINES, MOST_PRODUCTS}
 use Rattle.script_text.specs.Grammar.{AsksFor}
-use Rattle.script_text.specs.LineFaults.{word_texts, asks, is_script_byte, first_failed}
+use Rattle.script_text.specs.LineFaults.{word_texts, asks, is_script_byte, first_fault}
 use Rattle.script_text.specs.Script.{takes_product}
 
 -- the fault of a line, as that of a script
@@ -23,15 +23,15 @@ at_line line NoMemory = script.NoMemory
 abbrev pub texts : List (Bor (List ℕ)) → List (List ℕ)
 texts words = map (λ word. word.now) words
 
--- the fault is want of memory or the first of these tests that fails
-abbrev pub IsFirstFailed : List (ScriptWord × Bool) → LineFault → Type 0
-IsFirstFailed tests (Word what) = first_failed tests ≡ Some what
-IsFirstFailed tests NoMemory = ⊤
+-- the fault is want of memory or that of the first of these tests that holds
+abbrev pub IsFirstFault : List (ScriptWord × Bool) → LineFault → Type 0
+IsFirstFault tests (Word what) = first_fault tests ≡ Some what
+IsFirstFault tests NoMemory = ⊤
 
--- the fault is want of memory or this one, and it comes only where the test fails
-abbrev pub IsFailed : ScriptWord → Bool → LineFault → Type 0
-IsFailed expected failed (Word what) = (what ≡ expected) × (failed ≡ true)
-IsFailed expected failed NoMemory = ⊤
+-- the fault is want of memory or this one, and it comes only where its test holds
+abbrev pub IsFaultWhere : ScriptWord → Bool → LineFault → Type 0
+IsFaultWhere expected holds (Word what) = (what ≡ expected) × (holds ≡ true)
+IsFaultWhere expected holds NoMemory = ⊤
 
 -- the words ask for this act, or for none
 abbrev pub IsAskedBy : List (List ℕ) → Option Act → Type 0

@@ -1,4 +1,4 @@
--- What can be wrong with a line: one test for each fault, in the order in which they are made. That order is TooManyLines,
+-- What can be wrong with a line: one test for each fault, which holds where the fault is there. The order of the tests is TooManyLines,
 -- BadByte, UnknownWord, WrongCount, BadNumber, BadLimit, BadName, TooManyProducts. (The faults are this project's own.)
 use Rattle.std.specs.Prelude.{ℕ, ◌==◌, ◌&&◌, ◌||◌, not, nat_le, nat_lt, if◌then◌else◌, Bool, true, false, List, [], ◌∷◌, ◌++◌, length, map, take, slice_get, slice_index, count_by, find, codes, bytes_eq, Option, is_some, option_map}
 use Rattle.std.specs.List.{list_all, filter_map, enumerate_from}
@@ -50,7 +50,7 @@ has_bad_name Direct (word ∷ words) = bytes_eq word (codes "-")
 has_bad_name Wreath (word ∷ words) = bytes_eq word (codes "-")
 has_bad_name _ _ = false
 
--- what the words behind a keyword can fail where they are known and as many as it allows
+-- the tests of the words behind a keyword where they are known and as many as it allows
 abbrev pub content_tests : Keyword → List (List ℕ) → List (ScriptWord × Bool)
 content_tests keyword words =
     (BadNumber, has_bad_number keyword words)
@@ -58,19 +58,19 @@ content_tests keyword words =
     ∷ (BadName, has_bad_name keyword words)
     ∷ []
 
--- what the words behind a keyword can fail
+-- the tests of the words behind a keyword
 abbrev pub keyword_tests : Keyword → List (List ℕ) → List (ScriptWord × Bool)
 keyword_tests keyword words =
     (UnknownWord, has_unknown_word keyword words)
     ∷ (WrongCount, not (allows keyword (length words)))
     ∷ content_tests keyword words
 
--- what the words of a line can fail
+-- the tests of the words of a line
 abbrev pub word_tests : List (List ℕ) → List (ScriptWord × Bool)
 word_tests [] = []
 word_tests (first ∷ words) = option_map_or (λ keyword. keyword_tests keyword words) (keyword_of first) ((UnknownWord, true) ∷ [])
 
--- what a line can fail by itself; a blank line or a comment only the first
+-- the tests of a line by itself; of a blank line or a comment only the first
 abbrev pub text_tests : Part → List (ScriptWord × Bool)
 text_tests line =
     (BadByte, not (list_all is_script_byte line.bytes))
@@ -84,26 +84,26 @@ starts_product (first ∷ words) = option_map_or names_file (keyword_of first) f
 abbrev pub is_product : Part → Bool
 is_product line = starts_product (word_texts line)
 
--- what a line with this number can fail, where the text has so many product lines up to it
+-- the tests of a line with this number, where the text has so many product lines up to it
 abbrev pub line_tests : ℕ → ℕ → Part → List (ScriptWord × Bool)
 line_tests number products line =
     (TooManyLines, nat_lt MOST_LINES number)
     ∷ text_tests line
     ++ (TooManyProducts, is_product line && nat_lt MOST_PRODUCTS products) ∷ []
 
--- the word of the first test that fails
-abbrev pub first_failed : List (ScriptWord × Bool) → Option ScriptWord
-first_failed tests = option_map (λ test. test.0) (find (λ test. test.1) tests)
+-- the fault of the first test that holds
+abbrev pub first_fault : List (ScriptWord × Bool) → Option ScriptWord
+first_fault tests = option_map (λ test. test.0) (find (λ test. test.1) tests)
 
 -- how many product lines the text has up to the line with this number
 abbrev pub products_to : List Part → ℕ → ℕ
 products_to lines number = count_by is_product (take number lines)
 
--- the number of a line that fails, with the first test that it fails
+-- the number of a line that has a fault, with its first fault
 abbrev pub fault_at : List Part → ℕ × Part → Option (ℕ × ScriptWord)
-fault_at lines (number, line) = option_map (λ what. (number, what)) (first_failed (line_tests number (products_to lines number) line))
+fault_at lines (number, line) = option_map (λ what. (number, what)) (first_fault (line_tests number (products_to lines number) line))
 
--- those of all lines that fail, in order
+-- those of all lines that have one, in order
 abbrev pub faults_of : List Part → List (ℕ × ScriptWord)
 faults_of lines = filter_map (fault_at lines) (enumerate_from 1 lines)
 

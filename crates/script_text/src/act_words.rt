@@ -4,7 +4,7 @@ ghost use Rattle.std.specs.Prelude.{◌≡◌, ◌≢◌, ◌<◌, ◌^◌, ◌�
 ghost use Rattle.std.specs.Str.{IsAscii};
 ghost use Rattle.script_text.specs.declared.acts.Act.TheVariants.{Mergings};
 ghost use Rattle.script_text.specs.declared.acts.GraphForm.TheVariants.{Graph6, Digraph6};
-ghost use Rattle.script_text.specs.Answers.{texts, IsFailed, IsFirstFailed};
+ghost use Rattle.script_text.specs.Answers.{texts, IsFaultWhere, IsFirstFault};
 ghost use Rattle.script_text.specs.Grammar.{AsksFor, IsLimit};
 ghost use Rattle.script_text.specs.Keyword.{spelling, allows, has_unknown_word};
 ghost use Rattle.script_text.specs.LineFaults.{content_tests, is_beyond_limit, word_tests};
@@ -22,7 +22,7 @@ pub(crate) fn act_of(alloc: Global, first: &[u8], others: &[&[u8]]) -> Result<Ac
     requires few { length others.now < 2 ^ 32 }
     requires ascii { All (λ word. IsAscii word.now) others.now }
     ensures ok { IfOk result (AsksFor (first.now ∷ texts others.now)) }
-    ensures err { IfErr result (IsFirstFailed (word_tests (first.now ∷ texts others.now))) }
+    ensures err { IfErr result (IsFirstFault (word_tests (first.now ∷ texts others.now))) }
 {
     let Some(keyword) = keyword_of(first) else {
         return Err(LineFault::Word(ScriptWord::UnknownWord));
@@ -43,7 +43,7 @@ fn keyword_act(alloc: Global, keyword: Keyword, words: &[&[u8]]) -> Result<Act, 
     requires known { has_unknown_word keyword (texts words.now) ≡ false }
     requires count { IsTrue (allows keyword (length words.now)) }
     ensures ok { IfOk result (AsksFor (spelling keyword ∷ texts words.now)) }
-    ensures err { IfErr result (IsFirstFailed (content_tests keyword (texts words.now))) }
+    ensures err { IfErr result (IsFirstFault (content_tests keyword (texts words.now))) }
 {
     match keyword {
         Keyword::Set => {
@@ -104,7 +104,7 @@ fn keyword_act(alloc: Global, keyword: Keyword, words: &[&[u8]]) -> Result<Act, 
 fn file_name(alloc: Global, word: &[u8]) -> Result<Name, LineFault>
     requires { IsAscii word.now }
     ensures ok { IfOk result (λ name. (name ≡ word.now) × (word.now ≢ codes "-")) }
-    ensures err { IfErr result (IsFailed ScriptWord.BadName (bytes_eq word.now (codes "-"))) }
+    ensures err { IfErr result (IsFaultWhere ScriptWord.BadName (bytes_eq word.now (codes "-"))) }
 {
     if word == b"-".as_slice() {
         return Err(LineFault::Word(ScriptWord::BadName));
@@ -118,7 +118,7 @@ fn mergings(alloc: Global, words: &[&[u8]]) -> Result<Act, LineFault>
     requires known { has_unknown_word Keyword.Mergings (texts words.now) ≡ false }
     requires count { IsTrue (allows Keyword.Mergings (length words.now)) }
     ensures ok { IfOk result (AsksFor (spelling Keyword.Mergings ∷ texts words.now)) }
-    ensures err { IfErr result (IsFirstFailed (content_tests Keyword.Mergings (texts words.now))) }
+    ensures err { IfErr result (IsFirstFault (content_tests Keyword.Mergings (texts words.now))) }
 {
     let most = number(words[0])?;
     if words.len() == 1 {
@@ -131,7 +131,7 @@ fn mergings(alloc: Global, words: &[&[u8]]) -> Result<Act, LineFault>
 // The act that asks for so many fusions.
 fn fusions(most: u32, after: Option<Numbers>) -> Result<Act, LineFault>
     ensures ok { IfOk result (λ act. (act ≡ Mergings most after) × IsLimit most) }
-    ensures err { IfErr result (IsFailed ScriptWord.BadLimit (is_beyond_limit most)) }
+    ensures err { IfErr result (IsFaultWhere ScriptWord.BadLimit (is_beyond_limit most)) }
 {
     if most == 0 || most > MOST_MERGINGS {
         return Err(LineFault::Word(ScriptWord::BadLimit));
@@ -145,7 +145,7 @@ fn write(alloc: Global, words: &[&[u8]]) -> Result<Act, LineFault>
     requires known { has_unknown_word Keyword.Write (texts words.now) ≡ false }
     requires count { IsTrue (allows Keyword.Write (length words.now)) }
     ensures ok { IfOk result (AsksFor (spelling Keyword.Write ∷ texts words.now)) }
-    ensures err { IfErr result (IsFirstFailed (content_tests Keyword.Write (texts words.now))) }
+    ensures err { IfErr result (IsFirstFault (content_tests Keyword.Write (texts words.now))) }
 {
     let form = graph_form(words[0]);
     let set = numbers(alloc, &words[1..])?;

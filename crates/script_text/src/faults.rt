@@ -31,7 +31,7 @@ pub enum ScriptWord {
 /// Why a text was not read as a script.
 #[derive(Clone, Copy, Debug, PartialEq, Eq, Error)]
 pub enum ScriptFault {
-    /// The first line that fails, counted from 1, with the first test that it fails.
+    /// The first line that has a fault, counted from 1, with its first fault.
     #[error("the text is no script")]
     Text { line: u32, what: ScriptWord },
     /// There is not enough memory.
@@ -42,7 +42,7 @@ pub enum ScriptFault {
 // Why one line was not read.
 #[derive(Clone, Copy, Debug, PartialEq, Eq)]
 pub(crate) enum LineFault {
-    // The first test that it fails.
+    // The fault of the first test that holds.
     Word(ScriptWord),
     // There is not enough memory.
     NoMemory,

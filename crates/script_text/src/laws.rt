@@ -3,7 +3,7 @@
 ghost use Rattle.script_text.specs.Script.{ScriptHasNoFault, ScriptIsUnique, ScriptOrFault};
 
 /// Each text is exactly one script, or has exactly one fault, and never both: whatever its bytes
-/// are, either one list of lines is its script and no line fails a test, or some line fails, and
+/// are, either one list of lines is its script and no line has a fault, or some line has one, and
 /// then no list of lines is its script.
 pub fn l8()
     ensures unique { ScriptIsUnique }

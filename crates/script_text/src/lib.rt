@@ -10,7 +10,7 @@
 //! * `laws`: what holds of the definitions alone.
 //!
 //! The definitions stand in `specs/`: `Grammar` says which words ask for which act, and
-//! `LineFaults` which line fails by which test.
+//! `LineFaults` which line has which fault.
 #![tactic(auto)]
 
 mod act_words;

@@ -6,7 +6,7 @@ ghost use Rattle.text_lines.specs.Views.{part_of};
 ghost use Rattle.script_text.specs.declared.faults.LineFault.TheVariants.{NoMemory};
 ghost use Rattle.script_text.specs.declared.faults.ScriptWord.{ScriptWord};
 ghost use Rattle.script_text.specs.declared.faults.ScriptFault.TheVariants.{Text};
-ghost use Rattle.script_text.specs.Answers.{texts, IsFirstFailed, IsAskedBy, IsRead, IsReadAt, adds_product};
+ghost use Rattle.script_text.specs.Answers.{texts, IsFirstFault, IsAskedBy, IsRead, IsReadAt, adds_product};
 ghost use Rattle.script_text.specs.LineFaults.{asks, is_script_byte, word_texts, word_tests, text_tests, line_tests, script_fault};
 ghost use Rattle.script_text.specs.Script.{IsScript, KeepsLimit};
 
@@ -20,7 +20,7 @@ use text_lines::{TextPart, TextWords, lines, words};
 /// Reads a script: each line that is neither blank nor a comment, with its number and what it asks
 /// for.
 ///
-/// The fault is that of the first line that fails, by the first of its tests.
+/// The fault is that of the first line that has one: the first fault of this line.
 pub fn read_script(alloc: Global, bytes: &[u8]) -> Result<Vec<Line>, ScriptFault>
     requires { length bytes.now ≤ MOST_SCRIPT }
     ensures script { IfOk result (λ script. IsScript bytes.now script.items) }
@@ -54,7 +54,7 @@ fn numbered_act(
 ) -> Result<Option<Act>, LineFault>
     requires { length line.bytes.now < 2 ^ 31 }
     ensures ok { IfOk result (IsReadAt number products (part_of line.entry)) }
-    ensures err { IfErr result (IsFirstFailed (line_tests number (products + 1) (part_of line.entry))) }
+    ensures err { IfErr result (IsFirstFault (line_tests number (products + 1) (part_of line.entry))) }
 {
     if number > MOST_LINES {
         return Err(LineFault::Word(ScriptWord::TooManyLines));
@@ -77,7 +77,7 @@ fn is_product(act: &Option<Act>) -> bool
 fn line_act(alloc: Global, line: TextPart<'_>) -> Result<Option<Act>, LineFault>
     requires { length line.bytes.now < 2 ^ 31 }
     ensures ok { IfOk result (IsRead (part_of line.entry)) }
-    ensures err { IfErr result (IsFirstFailed (text_tests (part_of line.entry))) }
+    ensures err { IfErr result (IsFirstFault (text_tests (part_of line.entry))) }
 {
     if !is_allowed(line.bytes) {
         return Err(LineFault::Word(ScriptWord::BadByte));
@@ -105,7 +105,7 @@ fn words_act(alloc: Global, line: TextPart<'_>) -> Result<Option<Act>, LineFault
     requires bytes { list_all is_script_byte line.bytes.now ≡ true }
     ensures ok { IfOk result (IsAskedBy (word_texts (part_of line.entry))) }
     ensures err { IfErr result (λ fault. (asks (word_texts (part_of line.entry)) ≡ true)
-        × IsFirstFailed (word_tests (word_texts (part_of line.entry))) fault) }
+        × IsFirstFault (word_tests (word_texts (part_of line.entry))) fault) }
 {
     let mut words = words(line);
     let Some(first) = words.next() else {

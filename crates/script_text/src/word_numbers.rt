@@ -3,7 +3,7 @@
 ghost use Rattle.std.specs.Prelude.{◌≡◌, ◌<◌, ◌^◌, ◌∷◌, [], IfOk, IfErr, not, length};
 ghost use Rattle.std.specs.List.{AllZip, list_all};
 ghost use Rattle.text_lines.specs.Number.{IsNumberForm};
-ghost use Rattle.script_text.specs.Answers.{texts, IsFailed};
+ghost use Rattle.script_text.specs.Answers.{texts, IsFaultWhere};
 ghost use Rattle.script_text.specs.LineFaults.{is_number};
 
 use crate::faults::{LineFault, ScriptWord};
@@ -14,7 +14,7 @@ use text_lines::read_number;
 // The number that a word is.
 pub(crate) fn number(word: &[u8]) -> Result<u32, LineFault>
     ensures ok { IfOk result (IsNumberForm word.now) }
-    ensures err { IfErr result (IsFailed ScriptWord.BadNumber (not (is_number word.now))) }
+    ensures err { IfErr result (IsFaultWhere ScriptWord.BadNumber (not (is_number word.now))) }
 {
     match read_number(word) {
         Some(number) => Ok(number),
@@ -26,7 +26,7 @@ pub(crate) fn number(word: &[u8]) -> Result<u32, LineFault>
 pub(crate) fn two_numbers(words: &[&[u8]]) -> Result<(u32, u32), LineFault>
     requires { length words.now ≡ 2 }
     ensures ok { IfOk result (λ n. AllZip IsNumberForm (texts words.now) (n.0 ∷ n.1 ∷ [])) }
-    ensures err { IfErr result (IsFailed ScriptWord.BadNumber (not (list_all is_number (texts words.now)))) }
+    ensures err { IfErr result (IsFaultWhere ScriptWord.BadNumber (not (list_all is_number (texts words.now)))) }
 {
     Ok((number(words[0])?, number(words[1])?))
 }
@@ -35,7 +35,7 @@ pub(crate) fn two_numbers(words: &[&[u8]]) -> Result<(u32, u32), LineFault>
 pub(crate) fn three_numbers(words: &[&[u8]]) -> Result<(u32, u32, u32), LineFault>
     requires { length words.now ≡ 3 }
     ensures ok { IfOk result (λ n. AllZip IsNumberForm (texts words.now) (n.0 ∷ n.1 ∷ n.2 ∷ [])) }
-    ensures err { IfErr result (IsFailed ScriptWord.BadNumber (not (list_all is_number (texts words.now)))) }
+    ensures err { IfErr result (IsFaultWhere ScriptWord.BadNumber (not (list_all is_number (texts words.now)))) }
 {
     Ok((number(words[0])?, number(words[1])?, number(words[2])?))
 }
@@ -44,7 +44,7 @@ pub(crate) fn three_numbers(words: &[&[u8]]) -> Result<(u32, u32, u32), LineFaul
 pub(crate) fn numbers(alloc: Global, words: &[&[u8]]) -> Result<Numbers, LineFault>
     requires { length words.now < 2 ^ 32 }
     ensures ok { IfOk result (AllZip IsNumberForm (texts words.now)) }
-    ensures err { IfErr result (IsFailed ScriptWord.BadNumber (not (list_all is_number (texts words.now)))) }
+    ensures err { IfErr result (IsFaultWhere ScriptWord.BadNumber (not (list_all is_number (texts words.now)))) }
 {
     let mut numbers = Numbers::new(alloc);
     for word in words {

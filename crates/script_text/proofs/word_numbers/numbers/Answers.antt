@@ -1,6 +1,6 @@
 use Rattle.std.proofs.Common.{arith}
 use Rattle.std.proofs.lemmas.Result.{err_from_is_err_and}
-use Rattle.script_text.proofs.FailedWords.{bad_at, forms_more, forms_count}
+use Rattle.script_text.proofs.FaultyWords.{bad_at, forms_more, forms_count}
 use Rattle.script_text.proofs.word_numbers.numbers.Goals as goal
 
 pub returns-in_err-number-clause-err : goal.returns-in_err-number-clause-err

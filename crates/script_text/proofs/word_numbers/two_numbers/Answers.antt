@@ -1,6 +1,6 @@
 use Rattle.std.proofs.Common.{arith}
 use Rattle.std.proofs.lemmas.Result.{err_from_is_err_and}
-use Rattle.script_text.proofs.FailedWords.{bad_at}
+use Rattle.script_text.proofs.FaultyWords.{bad_at}
 use Rattle.script_text.proofs.word_numbers.two_numbers.Goals as goal
 
 pub returns-in_err-number-2-clause-err : goal.returns-in_err-number-2-clause-err

@@ -1,4 +1,4 @@
--- Words that fail a test.
+-- Words of which a test holds.
 use Rattle.std.proofs.Common.{◌≡◌, ℕ, ◌+◌, ◌<◌, ◌≤◌, Bool, true, not, List, [], ◌∷◌, ◌++◌, length, get_or, take, sym, ◌∙◌}
 use Rattle.std.specs.Borrow.{Bor}
 use Rattle.std.specs.List.{AllZip, list_all}
@@ -12,19 +12,19 @@ use Rattle.script_text.specs.declared.faults.LineFault.TheVariants.{Word, NoMemo
 use Rattle.script_text.specs.declared.faults.ScriptWord.{ScriptWord}
 use Rattle.script_text.specs.declared.faults.ScriptWord.TheVariants.{BadNumber}
 use Rattle.text_lines.specs.Number.{IsNumberForm}
-use Rattle.script_text.specs.Answers.{texts, IsFailed}
+use Rattle.script_text.specs.Answers.{texts, IsFaultWhere}
 use Rattle.script_text.specs.LineFaults.{is_number}
 use Rattle.script_text.proofs.NumberForms.{forms_length}
 
-pub IsFailed-weaker : (what : ScriptWord) (b c : Bool) (fault : LineFault) → (b ≡ true → c ≡ true) → IsFailed what b fault → IsFailed what c fault
-IsFailed-weaker what b c (Word other) f h = (h.0, f h.1)
-IsFailed-weaker what b c NoMemory f h = tt
+pub IsFaultWhere-weaker : (what : ScriptWord) (b c : Bool) (fault : LineFault) → (b ≡ true → c ≡ true) → IsFaultWhere what b fault → IsFaultWhere what c fault
+IsFaultWhere-weaker what b c (Word other) f h = (h.0, f h.1)
+IsFaultWhere-weaker what b c NoMemory f h = tt
 
 -- a word at a place that is no number
 pub bad_at : (words : List (Bor (List ℕ))) (place : ℕ) (d : Bor (List ℕ)) (fault : LineFault) → place < length words
-    → IsFailed BadNumber (not (is_number (get_or words place d).now)) fault → IsFailed BadNumber (not (list_all is_number (texts words))) fault
+    → IsFaultWhere BadNumber (not (is_number (get_or words place d).now)) fault → IsFaultWhere BadNumber (not (list_all is_number (texts words))) fault
 bad_at words place d fault h failed =
-    IsFailed-weaker BadNumber _ _ fault
+    IsFaultWhere-weaker BadNumber _ _ fault
     (λ e. not_from_false _ (list_all-map is_number (λ (word : Bor (List ℕ)). word.now) words ∙ list_all_at (λ (word : Bor (List ℕ)). is_number word.now) words place d h (not-true _ e)))
     failed
 

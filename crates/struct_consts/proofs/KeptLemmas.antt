@@ -78,9 +78,6 @@ pub record HasData (K : PairColouring) (n : ℕ) (classes : List Class) : Type 0
   pub len : length classes ≡ n
   pub data_of_each : (k : ℕ) (d : Class) → k < n → IsClassData K k (get_or classes k d)
 
-pub HasData-start : (K : PairColouring) (classes : List Class) → classes ≡ [] → HasData K 0 classes
-HasData-start K classes e = record { len = ap length e; data_of_each = λ k d l. absurd (omega (arith, l)) }
-
 pub HasData-push : (K : PairColouring) (n : ℕ) (classes new : List Class) (c : Class) → new ≡ classes ++ c ∷ [] → IsClassData K n c → HasData K n classes → HasData K (n + 1) new
 HasData-push K n classes new c e one h = record {
   len = ap length e ∙ length_push classes c ∙ omega (arith, h.len);

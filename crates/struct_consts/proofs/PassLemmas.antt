@@ -1,7 +1,7 @@
 -- What the passes over all pairs keep, pair by pair.
-use Rattle.std.proofs.Common.{◌≡◌, ◌==◌, ℕ, ◌+◌, ◌*◌, ◌<◌, ◌≤◌, Bool, true, false, cond, List, [], ◌∷◌, ◌++◌, length, get_or, set, take, find, replicate, count_by, Option, Some, None, unwrap_or, ⊎_elim, refl, sym, ap, subst, ◌∙◌, arith}
+use Rattle.std.proofs.Common.{◌≡◌, ◌==◌, ℕ, ◌+◌, ◌*◌, ◌<◌, ◌≤◌, Bool, true, false, cond, List, [], ◌∷◌, ◌++◌, length, get_or, set, take, find, count_by, Option, Some, None, unwrap_or, ⊎_elim, refl, sym, ap, subst, ◌∙◌, arith}
 use Rattle.std.proofs.lemmas.Bool.{cases_eq, eq-eqb, ne_eqb}
-use Rattle.std.proofs.lemmas.List.{length-set, length-replicate, get_or-replicate, get_or-set_same, get_or-set_other, append-nil, take_all}
+use Rattle.std.proofs.lemmas.List.{length-set, get_or-set_same, get_or-set_other}
 use Rattle.std.proofs.lemmas.List.Sums.{count_by_more_yes, count_by_more_no, count_by-le-length, sum_by-take-le}
 use Rattle.std.proofs.lemmas.Nat.{mul-le}
 use Rattle.pair_colours.specs.declared.coloured_pairs.TheConstants.{MOST_POINTS}
@@ -9,7 +9,6 @@ use Rattle.pair_colours.specs.Colouring.{PairColouring, IsColouring, FitsColouri
 use Rattle.pair_colours.proofs.FirstPair.{first_on, diagonal_to_more, row_to_next, row_to_same, rows_to_next}
 use Rattle.pair_colours.proofs.Walked.{diagonal_to, rows_to, row_to}
 use Rattle.pair_colours.proofs.Places.{place_below}
-use Rattle.struct_consts.specs.Kept.{HasFirstPairs, HasSizes}
 
 find_push_no : {X : Type 0} (p : X → Bool) (xs : List X) (x : X) → p x ≡ false → find p (xs ++ x ∷ []) ≡ find p xs
 find_push_no p [] x e = ap (λ b. cond b (Some x) None) e
@@ -27,12 +26,6 @@ find_push_yes {X} p (y ∷ ys) x e = by (p y) (find_push_yes p ys x e)
 pub record HasFirstOn (K : PairColouring) (n : ℕ) (ps : List (ℕ × ℕ)) (pairs : List (Option (ℕ × ℕ))) : Type 0 where
   pub len : length pairs ≡ n
   pub each : (k : ℕ) → k < n → get_or pairs k None ≡ first_on K k ps
-
-pub HasFirstOn-start : (K : PairColouring) (n : ℕ) (pairs : List (Option (ℕ × ℕ))) → pairs ≡ replicate n None → HasFirstOn K n [] pairs
-HasFirstOn-start K n pairs e = record {
-  len = ap length e ∙ length-replicate n None;
-  each = λ k l. ap (λ ps. get_or ps k None) e ∙ get_or-replicate n k None None l;
-}
 
 HasFirstOn-push : (K : PairColouring) (n x y c : ℕ) (ps : List (ℕ × ℕ)) (pairs new : List (Option (ℕ × ℕ))) → c ≡ colour_at K x y → c < n
     → new ≡ set pairs c (Some (unwrap_or (get_or pairs c None) (x, y))) → HasFirstOn K n ps pairs → HasFirstOn K n (ps ++ (x, y) ∷ []) new
@@ -64,12 +57,6 @@ pub first_diagonal : (K : PairColouring) (n x c : ℕ) (pairs new : List (Option
 first_diagonal K n x c pairs new e l s h =
     HasFirstOn-along K n _ _ new (sym (diagonal_to_more x)) (HasFirstOn-push K n x x c (diagonal_to x) pairs new e l s h)
 
-pub first_rows_start : (K : PairColouring) (n m x : ℕ) (pairs : List (Option (ℕ × ℕ))) → x ≡ m → HasFirstOn K n (diagonal_to x) pairs → HasFirstOn K n (rows_to m 0) pairs
-first_rows_start K n m x pairs e h = HasFirstOn-along K n _ _ pairs (ap diagonal_to e ∙ sym (append-nil (diagonal_to m))) h
-
-pub first_row_start : (K : PairColouring) (n m x : ℕ) (pairs : List (Option (ℕ × ℕ))) → HasFirstOn K n (rows_to m x) pairs → HasFirstOn K n (rows_to m x ++ row_to x 0) pairs
-first_row_start K n m x pairs h = HasFirstOn-along K n _ _ pairs (sym (append-nil (rows_to m x))) h
-
 pub first_row_more : (K : PairColouring) (n m x y c : ℕ) (pairs new : List (Option (ℕ × ℕ))) → (x ≡ y → ⊥) → c ≡ colour_at K x y → c < n
     → new ≡ set pairs c (Some (unwrap_or (get_or pairs c None) (x, y))) → HasFirstOn K n (rows_to m x ++ row_to x y) pairs → HasFirstOn K n (rows_to m x ++ row_to x (y + 1)) new
 first_row_more K n m x y c pairs new ne e l s h =
@@ -81,21 +68,10 @@ first_row_skip K n m x y pairs e h = HasFirstOn-along K n _ _ pairs (ap (λ l. r
 pub first_row_end : (K : PairColouring) (n m x y : ℕ) (pairs : List (Option (ℕ × ℕ))) → y ≡ m → HasFirstOn K n (rows_to m x ++ row_to x y) pairs → HasFirstOn K n (rows_to m (x + 1)) pairs
 first_row_end K n m x y pairs e h = HasFirstOn-along K n _ _ pairs (ap (λ z. rows_to m x ++ row_to x z) e ∙ rows_to_next m x) h
 
-pub first_end : (K : PairColouring) (n x : ℕ) (pairs : List (Option (ℕ × ℕ))) → x ≡ K.size → HasFirstOn K n (rows_to K.size x) pairs → HasFirstPairs K n pairs
-first_end K n x pairs e h =
-    let w = HasFirstOn-along K n _ _ pairs (ap (rows_to K.size) e) h in
-    record { len = w.len; each = w.each }
-
 -- of each class below n, the number of its pairs among the first places
 pub record HasSizesTo (K : PairColouring) (n place : ℕ) (sizes : List ℕ) : Type 0 where
   pub len : length sizes ≡ n
   pub each : (k : ℕ) → k < n → get_or sizes k 0 ≡ count_by (λ colour. colour == k) (take place K.colours)
-
-pub sizes_start : (K : PairColouring) (n : ℕ) (sizes : List ℕ) → sizes ≡ replicate n 0 → HasSizesTo K n 0 sizes
-sizes_start K n sizes e = record {
-  len = ap length e ∙ length-replicate n 0;
-  each = λ k l. ap (λ s. get_or s k 0) e ∙ get_or-replicate n k 0 0 l;
-}
 
 pub sizes_more : (K : PairColouring) (n x y c : ℕ) (sizes new : List ℕ) → IsColouring K → x < K.size → y < K.size → c ≡ colour_at K x y → c < n
     → new ≡ set sizes c (get_or sizes c 0 + 1) → HasSizesTo K n (x * K.size + y) sizes → HasSizesTo K n (x * K.size + (y + 1)) new
@@ -123,15 +99,6 @@ sizes_more K n x y c sizes new a hx hy e l s h = record {
         get_or-set_other sizes c k (get_or sizes c 0 + 1) 0 ne
         ∙ h.each k m
         ∙ sym (count_by_more_no (λ colour. colour == k) K.colours (x * K.size + y) 0 low (ne_eqb _ _ (λ q. ne (sym q ∙ sym e))))
-
-pub sizes_row : (K : PairColouring) (n x y : ℕ) (sizes : List ℕ) → y ≡ K.size → HasSizesTo K n (x * K.size + y) sizes → HasSizesTo K n ((x + 1) * K.size) sizes
-sizes_row K n x y sizes e h = subst (λ p. HasSizesTo K n p sizes) (ap (λ z. x * K.size + z) e ∙ (omega arith)) h
-
-pub sizes_end : (K : PairColouring) (n x : ℕ) (sizes : List ℕ) → IsColouring K → x ≡ K.size → HasSizesTo K n (x * K.size) sizes → HasSizes K n sizes
-sizes_end K n x sizes a e h = record {
-  len = h.len;
-  each = λ k l. h.each k l ∙ ap (count_by (λ colour. colour == k)) (ap (λ z. take (z * K.size) K.colours) e ∙ take_all (K.size * K.size) K.colours (omega (arith, a.has_pairs)));
-}
 
 -- a count so far is small
 pub size_small : (K : PairColouring) (k place : ℕ) → FitsColouring K → count_by (λ colour. colour == k) (take place K.colours) ≤ MOST_POINTS * MOST_POINTS

@@ -1,8 +1,6 @@
 -- The colourings of the tests.
-use Rattle.std.proofs.Common.{◌≡◌, ◌+◌, ◌*◌, ◌/◌, ◌%◌, ◌<◌, List, ℕ, [], ◌∷◌, length, get_or, set, replicate, ⊎_elim, refl, sym, ap, ◌∙◌, arith}
-use Rattle.std.proofs.lemmas.Bool.{cases_eq, cases_order}
-use Rattle.std.proofs.lemmas.List.{length-set, length-replicate, get_or-set_same, get_or-set_other, ext_get_or}
-use Rattle.std.proofs.lemmas.Nat.{div-add-mod'}
+use Rattle.std.proofs.Common.{◌≡◌, ◌*◌, ◌<◌, List, ℕ, [], ◌∷◌, length, get_or, refl, sym, ◌∙◌, arith}
+use Rattle.std.proofs.lemmas.List.{ext_get_or}
 use Rattle.pair_colours.specs.Colouring.{PairColouring}
 use Rattle.pair_colours.specs.Closure.{Coherent}
 use Rattle.pair_colours.specs.Naming.{named_of}
@@ -33,26 +31,6 @@ pub record IsFilled (size place : ℕ) (colours : List ℕ) (c : PairColouring) 
   pub points : c.size ≡ size
   pub len : length c.colours ≡ size * size
   pub same : (k : ℕ) → k < place → get_or c.colours k 0 ≡ get_or colours k 0
-
-pub filled_start : (size : ℕ) (colours : List ℕ) (c : PairColouring) → c.size ≡ size → c.colours ≡ replicate (size * size) 0 → IsFilled size 0 colours c
-filled_start size colours c e f = record { points = e; len = ap length f ∙ length-replicate (size * size) 0; same = λ k l. absurd (omega (arith, l)) }
-
-pub filled_more : (size place colour : ℕ) (colours : List ℕ) (c new : PairColouring) → place < size * size → new.size ≡ c.size
-    → new.colours ≡ set c.colours (place / size * c.size + place % size) colour → colour ≡ get_or colours place 0 → IsFilled size place colours c → IsFilled size (place + 1) colours new
-filled_more size place colour colours c new l e f g h = record {
-  points = e ∙ h.points;
-  len = ap length written ∙ length-set c.colours place colour ∙ h.len;
-  same = λ k m. ap (λ cs. get_or cs k 0) written ∙ ⊎_elim
-      (λ q. ap (λ z. get_or (set c.colours place colour) z 0) q ∙ get_or-set_same c.colours place colour 0 (omega (arith, l, h.len)) ∙ g ∙ ap (λ z. get_or colours z 0) (sym q))
-      (λ ne. get_or-set_other c.colours place k colour 0 ne ∙ h.same k (not_here k m ne))
-      (cases_eq k place);
-}
-  where
-    written : new.colours ≡ set c.colours place colour
-    written = f ∙ ap (λ p. set c.colours p colour) (ap (λ n. place / size * n + place % size) h.points ∙ div-add-mod' place size)
-
-    not_here : (k : ℕ) → k < place + 1 → (k ≡ place → ⊥) → k < place
-    not_here k m ne = ⊎_elim (λ q. absurd (ne q)) (λ o. ⊎_elim (λ q. q) (λ q. absurd (omega (arith, m, q))) o) (cases_order k place)
 
 pub filled_end : (size place : ℕ) (colours : List ℕ) (c : PairColouring) → length colours ≡ size * size → place ≡ size * size → IsFilled size place colours c
     → c ≡ record { size = size; colours = colours }

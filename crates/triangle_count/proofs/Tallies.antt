@@ -1,8 +1,8 @@
 -- How a sorted list of codes is counted run by run.
-use Rattle.std.proofs.Common.{◌≡◌, ◌==◌, ℕ, suc, zero, ◌+◌, ◌-◌, ◌^◌, ◌<◌, ◌≤◌, Bool, true, false, List, [], ◌∷◌, ◌++◌, length, get_or, take, count_by, Any, ⊎_elim, refl, sym, ap, subst, ◌∙◌, arith}
+use Rattle.std.proofs.Common.{◌≡◌, ◌==◌, ℕ, suc, zero, ◌+◌, ◌-◌, ◌^◌, ◌<◌, ◌≤◌, Bool, true, false, List, [], ◌∷◌, ◌++◌, length, get_or, take, count_by, Any, ⊎_elim, refl, sym, ap, ◌∙◌, arith}
 use Rattle.std.specs.List.Sorted.{IsNonDecreasing}
 use Rattle.std.proofs.lemmas.Bool.{cases_lt, cases_order, eqb-true, eq-eqb, ne_eqb}
-use Rattle.std.proofs.lemmas.List.{length-take-le, length_push, get_or-take, get_or_default, get_or_append_left, take_all}
+use Rattle.std.proofs.lemmas.List.{length-take-le, length_push, get_or-take, get_or_default, get_or_append_left}
 use Rattle.std.proofs.lemmas.List.Sums.{count_by_more_yes, count_by_more_no}
 use Rattle.std.proofs.lemmas.List.Elements.{All-push}
 use Rattle.std.proofs.lemmas.List.Quantifiers.{all_pairs_push, Any-push}
@@ -38,22 +38,6 @@ pub record IsRun (codes : List ℕ) (start i : ℕ) (entries : List Entry) : Typ
   pub same : i < length codes → (k : ℕ) → start ≤ k → k ≤ i → get_or codes k 0 ≡ get_or codes i 0
   pub fresh : i < length codes → (k : ℕ) → k < start → get_or codes k 0 < get_or codes i 0
   pub ended : i ≡ length codes → start ≡ i
-
-pub IsRun-start : (codes : List ℕ) → IsRun codes 0 0 []
-IsRun-start codes = record {
-  low = omega arith;
-  tally = record {
-    rises = λ i j d a b. absurd (omega (arith, b));
-    small = λ k d l. absurd (omega (arith, l));
-    nonzero = λ k d l. absurd (omega (arith, l));
-    counts = λ k d l. absurd (omega (arith, l));
-    complete = λ k d l. absurd (omega (arith, l));
-    short = omega arith;
-  };
-  same = λ l k a b. ap (λ n. get_or codes n 0) (omega arith);
-  fresh = λ l k a. absurd (omega (arith, a));
-  ended = λ e. refl;
-}
 
 -- within a run
 pub IsRun-within : (codes : List ℕ) (start i : ℕ) (entries : List Entry) → i + 1 < length codes → get_or codes (i + 1) 0 ≡ get_or codes i 0
@@ -148,7 +132,3 @@ IsRun-next codes start i entries e up l ne r c small n = record {
         let next = up i (i + 1) 0 (omega arith) m in
         let apart : get_or codes (i + 1) 0 ≡ get_or codes i 0 → ⊥ = ne m in
         ⊎_elim (λ q. absurd (apart (sym q))) (λ o. ⊎_elim (λ q. omega (arith, first, q)) (λ q. absurd (omega (arith, next, q))) o) (cases_order (get_or codes i 0) (get_or codes (i + 1) 0))
-
--- at the end every code is counted
-pub IsRun-end : (codes : List ℕ) (start i : ℕ) (entries : List Entry) → i ≡ length codes → IsRun codes start i entries → IsTally codes entries
-IsRun-end codes start i entries e r = subst (λ cs. IsTally cs entries) (take_all start codes (omega (arith, e, r.ended e))) r.tally

@@ -1,27 +1,13 @@
 use Rattle.std.proofs.Common.{◌≡◌, ℕ, ◌<◌, ⊎_elim, refl, sym, subst, ◌∙◌, arith}
 use Rattle.pair_colours.specs.Colouring.{PairColouring, Refines}
 use Rattle.pair_colours.specs.Closure.{Coherent, IsClosure, IsClosureOf}
-use Rattle.pair_colours.specs.Naming.{named_of, IsNamedMeet}
+use Rattle.pair_colours.specs.Naming.{named_of}
 use Rattle.pair_colours.specs.Rounds.{IsRound, IsOnTheWay}
 use Rattle.pair_colours.proofs.Closures.{IsClosureOf-named_of}
 use Rattle.pair_colours.proofs.Measure.{alike_places, fewer_or_refines}
 use Rattle.pair_colours.proofs.Places.{Refines-trans}
 use Rattle.pair_colours.proofs.Rounds.{alike_in, round_refines}
-use Rattle.wl_refine.specs.Splits.{JoinsAlike, IsPartialRound, IsSplit}
-
--- the meet with a colouring that joins alike pairs
-pub IsPartialRound-meet : (P W M : PairColouring) → JoinsAlike P W → IsNamedMeet P W M → IsPartialRound P M
-IsPartialRound-meet P W M w m = record {
-  colouring = m.colouring;
-  refines = m.first;
-  joins = record {
-    sizes = m.first.sizes;
-    together = λ x y u v hx hy hu hv a. m.together x y u v (to x hx) (to y hy) (to u hu) (to v hv) a.own (w.together x y u v hx hy hu hv a);
-  };
-}
-  where
-    to : (z : ℕ) → z < P.size → z < M.size
-    to z h = omega (arith, h, m.first.sizes)
+use Rattle.wl_refine.specs.Splits.{IsPartialRound, IsSplit}
 
 -- a round is a partial round
 pub IsPartialRound-round : (P R : PairColouring) → IsRound P R → IsPartialRound P R

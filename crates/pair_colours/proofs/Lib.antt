@@ -16,3 +16,4 @@ pub mod NumberedLists
 pub mod Writes
 pub mod Reaching
 pub mod SideCodes
+pub mod ColourSets

@@ -6,3 +6,4 @@ pub mod IntersectionNumber
 pub mod ClosedSet
 pub mod Lists
 pub mod SideCodes
+pub mod ColourSets

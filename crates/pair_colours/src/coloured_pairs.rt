@@ -87,8 +87,16 @@ impl Colouring {
         })
     }
 
+    /// The colours of all pairs, row by row.
+    pub fn colours(&self) -> &[u32]
+        ensures colours { result.now ≡ self.now.colours }
+        ensures within { FitsColouring self.now }
+    {
+        &self.colours
+    }
+
     // The colours, in the order in which the walk meets them.
-    fn met(&self, alloc: Global) -> Result<IndexSet<u32>, NoMemory>
+    fn colours_met(&self, alloc: Global) -> Result<IndexSet<u32>, NoMemory>
         ensures keys { IfOk result (λ met. met.keys ≡ colours_met self.now) }
         ensures few { IfOk result (λ met. length met.keys < 2 ^ 32) }
     {
@@ -110,7 +118,7 @@ impl Colouring {
     pub fn rank(&self, alloc: Global) -> Result<u32, NoMemory>
         ensures { IfOk result (λ rank. rank ≡ rank_of self.now) }
     {
-        let met = self.met(alloc)?;
+        let met = self.colours_met(alloc)?;
         Ok(met.len() as u32)
     }
 
@@ -118,7 +126,7 @@ impl Colouring {
     pub fn named(&self, alloc: Global) -> Result<Colouring, NoMemory>
         ensures { IfOk result (λ named. named ≡ named_of self.now) }
     {
-        let met = self.met(alloc)?;
+        let met = self.colours_met(alloc)?;
         let mut colours = Vec::new(alloc);
         for colour in &self.colours {
             match met.get_index_of(colour) {
@@ -132,7 +140,8 @@ impl Colouring {
         })
     }
 
-    /// Whether pairs of one colour have one colour in the other colouring too, and both have one size.
+    /// Whether this colouring refines the other: both have the same number of points, and pairs of
+    /// one colour here have one colour there.
     pub fn refines(&self, alloc: Global, other: &Colouring) -> Result<bool, NoMemory>
         ensures { IfOk result (λ answer. IsTrue answer ↔ Refines self.now other.now) }
     {
@@ -174,7 +183,8 @@ impl Colouring {
         Some(self.get(y, x))
     }
 
-    /// The named colouring in which two pairs have one colour where they have one in both colourings.
+    /// The named colouring in which two pairs have one colour exactly where they have one in both
+    /// colourings.
     pub fn meet(&self, alloc: Global, other: &Colouring) -> Result<Colouring, NoMemory>
         requires { self.now.size ≡ other.now.size }
         ensures { IfOk result (λ meet. IsNamedMeet self.now other.now meet) }

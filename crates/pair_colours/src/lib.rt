@@ -2,6 +2,7 @@
 //! means to be a coherent configuration and the closure of a colouring.
 //!
 //! * `coloured_pairs`: `Colouring`, the matrix of colours that every crate above works on.
+//! * `colour_sets`: sets of colours, and whether their pairs are the edges of a graph.
 //! * `number_list`: `Numbers`, the list of numbers that readers and answers hand on.
 //! * `numbering`: numbers for equal entries of a list, which naming, refining and meeting share.
 //! * `pair_codes`: `pair_code`, two numbers as one.
@@ -10,6 +11,7 @@
 //! The definitions stand in `specs/`; docs/DEFINITIONS.md has them in words.
 #![tactic(auto)]
 
+mod colour_sets;
 mod coloured_pairs;
 pub mod laws;
 mod no_memory;
@@ -17,6 +19,7 @@ mod number_list;
 mod numbering;
 mod pair_codes;
 
+pub use colour_sets::{ColourSet, is_colour_set, is_edge_set};
 pub use coloured_pairs::{Colouring, MOST_COLOUR, MOST_POINTS};
 pub use no_memory::NoMemory;
 pub use number_list::Numbers;

@@ -3,7 +3,7 @@
 use std::alloc::{AllocError, AllocFailed};
 
 /// There is not enough memory. Every call of this crate, and of the crates above it, that takes
-/// memory may answer so; nothing that it was lent has changed then.
+/// memory may answer so. What it was lent is as it was, unless the call says otherwise.
 #[derive(Clone, Copy, Debug, PartialEq, Eq)]
 pub struct NoMemory;
 

@@ -1,4 +1,4 @@
-//! A list of numbers, of at most as many as a `u32` counts.
+//! A list of fewer than 2^32 numbers.
 
 ghost use Rattle.std.specs.Prelude.{◌≡◌, ℕ, ◌^◌, ◌-◌, ◌<◌, ◌≤◌, List, [], ◌∷◌, ◌++◌, length, slice_index, OnOk, OnErr};
 

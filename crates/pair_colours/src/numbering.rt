@@ -1,4 +1,4 @@
-//! Lists of numbers.
+//! Numbers for equal entries of a list, which naming, refining and meeting share.
 
 ghost use Rattle.std.specs.Prelude.{◌≡◌, ◌↔◌, ◌^◌, ◌<◌, ◌≤◌, All, IsTrue, IfOk, length};
 ghost use Rattle.pair_colours.specs.Lists.{Determines, IsPaired};

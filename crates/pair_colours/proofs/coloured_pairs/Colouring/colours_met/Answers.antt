@@ -2,8 +2,8 @@ use Rattle.std.proofs.Common.{◌≡◌, ◌++◌, ap, ◌∙◌, subst, arith, 
 use Rattle.pair_colours.specs.Colouring.{PairColouring, FitsColouring}
 use Rattle.pair_colours.proofs.Few.{few_met}
 use Rattle.pair_colours.proofs.Walked.{met_on, rows_to, row_to, diagonal_more, row_more, row_skip, row_end}
-use Rattle.pair_colours.proofs.coloured_pairs.Colouring.met.Goals as goal
-use Rattle.pair_colours.proofs.coloured_pairs.Colouring.met.Goals.{then-x-y+in_ok-insert-2, else-x-y}
+use Rattle.pair_colours.proofs.coloured_pairs.Colouring.colours_met.Goals as goal
+use Rattle.pair_colours.proofs.coloured_pairs.Colouring.colours_met.Goals.{then-x-y+in_ok-insert-2, else-x-y}
 
 pub loop-x-preserved : goal.loop-x-preserved
 loop-x-preserved c =

@@ -1,6 +1,6 @@
 use Rattle.std.proofs.Common.{◌≡◌, ◌++◌}
 use Rattle.pair_colours.proofs.Walked.{met_on, diagonal_to, rows_to, row_to}
-use Rattle.pair_colours.proofs.coloured_pairs.Colouring.met.Given as goal
+use Rattle.pair_colours.proofs.coloured_pairs.Colouring.colours_met.Given as goal
 
 abbrev pub invariant-loop-x : goal.invariant-loop-x
 invariant-loop-x l = l.met.keys ≡ met_on l.self (diagonal_to l.x)

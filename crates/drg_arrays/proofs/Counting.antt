@@ -1,32 +1,15 @@
 -- Which points the counts count, and the steps of counting them.
 use Rattle.std.proofs.Common.{◌≡◌, ◌==◌, ◌&&◌, ℕ, ◌+◌, ◌*◌, ◌<◌, Bool, true, false, cond, List, get_or, length, count_by, [], ◌∷◌, ◌++◌, refl, below_more, ap, ◌∙◌, arith}
-use Rattle.std.proofs.lemmas.Bool.{eq-eqb, ne_eqb}
+use Rattle.std.proofs.lemmas.Bool.{eq-eqb, ne_eqb, and_from, and_right}
 use Rattle.std.proofs.lemmas.List.{get_or_append_left, get_or_push}
 use Rattle.std.proofs.lemmas.List.Sums.{sum_by_push}
 use Rattle.pair_colours.specs.Colouring.{points}
 use Rattle.pair_colours.proofs.Counts.{points_more, unit_of}
 use Rattle.drg_arrays.specs.Graph.{Graph, is_edge}
 
-abbrev pub is_nearer : Graph → List ℕ → ℕ → ℕ → ℕ → Bool
-is_nearer G table u v w = is_edge G v w && (get_or table (u * G.size + w) 0 + 1 == get_or table (u * G.size + v) 0)
-
-abbrev pub is_farther : Graph → List ℕ → ℕ → ℕ → ℕ → Bool
-is_farther G table u v w = is_edge G v w && (get_or table (u * G.size + w) 0 == get_or table (u * G.size + v) 0 + 1)
-
-pub both-true : (a b : Bool) → a ≡ true → b ≡ true → (a && b) ≡ true
-both-true a b p q = λ i. p i && q i
-
-pub both-first : (a b : Bool) → (a && b) ≡ true → a ≡ true
-both-first true b h = refl
-both-first false b h = h
-
-pub both-second : (a b : Bool) → (a && b) ≡ true → b ≡ true
-both-second true b h = h
-both-second false b h = absurd (let z : false ≡ true = h in cc)
-
-both-second-false : (a b : Bool) → b ≡ false → (a && b) ≡ false
-both-second-false true b h = h
-both-second-false false b h = refl
+-- w is a neighbour of v at the distance just below `end` from u
+abbrev pub is_counted : Graph → List ℕ → ℕ → ℕ → ℕ → ℕ → Bool
+is_counted G table u v end w = is_edge G v w && (get_or table (u * G.size + w) 0 + 1 == end)
 
 count_by-points_more : (p : ℕ → Bool) (w : ℕ) → count_by p (points (w + 1)) ≡ count_by p (points w) + cond (p w) 1 0
 count_by-points_more p w = ap (count_by p) (points_more w) ∙ sum_by_push (λ z. cond (p z) 1 0) (points w) w
@@ -36,7 +19,7 @@ pub counted_both : (edge : ℕ → Bool) (left right : ℕ → ℕ) (w count : �
     → count ≡ count_by (λ z. edge z && (left z == right z)) (points w) → count + 1 ≡ count_by (λ z. edge z && (left z == right z)) (points (w + 1))
 counted_both edge left right w count j e h =
     let p : ℕ → Bool = λ z. edge z && (left z == right z) in
-    let t : (edge w && (left w == right w)) ≡ true = both-true (edge w) (left w == right w) j (eq-eqb (left w) (right w) e) in
+    let t : (edge w && (left w == right w)) ≡ true = and_from (edge w) (left w == right w) j (eq-eqb (left w) (right w) e) in
     let one : unit_of (edge w && (left w == right w)) ≡ 1 = ap unit_of t in
     omega (arith, h, count_by-points_more (λ z. edge z && (left z == right z)) w, one)
 
@@ -49,7 +32,7 @@ counted_apart edge left right w count j h =
 pub counted_unequal : (edge : ℕ → Bool) (left right : ℕ → ℕ) (w count : ℕ) → (left w ≡ right w → ⊥)
     → count ≡ count_by (λ z. edge z && (left z == right z)) (points w) → count ≡ count_by (λ z. edge z && (left z == right z)) (points (w + 1))
 counted_unequal edge left right w count ne h =
-    let t : (edge w && (left w == right w)) ≡ false = both-second-false (edge w) (left w == right w) (ne_eqb (left w) (right w) ne) in
+    let t : (edge w && (left w == right w)) ≡ false = and_right (edge w) (left w == right w) (ne_eqb (left w) (right w) ne) in
     let none : unit_of (edge w && (left w == right w)) ≡ 0 = ap unit_of t in
     omega (arith, h, count_by-points_more (λ z. edge z && (left z == right z)) w, none)
 

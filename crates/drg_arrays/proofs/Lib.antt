@@ -2,7 +2,6 @@ pub mod Walks
 pub mod Searches
 pub mod Counting
 pub mod FirstPlaces
-pub mod Members
 pub mod Marks
 pub mod TableLemmas
 pub mod Regular

@@ -18,9 +18,6 @@ pub record IsMarking (G : Graph) (w level : ℕ) (old new : List ℕ) (grew : Bo
   pub fewer : unreached_count new + cond grew 1 0 ≤ unreached_count old
   pub same : IsTrue grew ⊎ (new ≡ old)
 
-pub IsMarking-start : (G : Graph) (w level : ℕ) (old : List ℕ) → IsMarking G w level old old false 0
-IsMarking-start G w level old = record { marked = λ k l. absurd (omega (arith, l)); later = λ k l. refl; fewer = omega arith; same = inr refl }
-
 -- a write of a level over none
 unreached_count-set : (levels : List ℕ) (y level : ℕ) → y < length levels → get_or levels y 0 ≡ UNREACHED → level < UNREACHED
     → unreached_count (set levels y level) + 1 ≡ unreached_count levels
@@ -138,9 +135,6 @@ pub record IsAdvance (G : Graph) (old new : List ℕ) (level : ℕ) (grew : Bool
   pub next : IsNextLevel G old new level w
   pub fewer : unreached_count new + cond grew 1 0 ≤ unreached_count old
   pub same : IsTrue grew ⊎ (new ≡ old)
-
-pub IsAdvance-start : (G : Graph) (old : List ℕ) (level : ℕ) → IsAdvance G old old level false 0
-IsAdvance-start G old level = record { next = IsNextLevel-start G old level; fewer = omega arith; same = inr refl }
 
 pub IsAdvance-skip : (G : Graph) (old now : List ℕ) (level : ℕ) (grew : Bool) (w : ℕ) → level + 1 < UNREACHED → (get_or now w 0 ≡ level → ⊥)
     → IsAdvance G old now level grew w → IsAdvance G old now level grew (w + 1)

@@ -1,6 +1,6 @@
 -- From the tables of counts to the answer.
 use Rattle.std.proofs.Common.{◌≡◌, ◌==◌, ◌↔◌, ℕ, ◌+◌, ◌*◌, ◌/◌, ◌%◌, ◌-◌, ◌<◌, ◌≤◌, List, length, get_or, map, take, drop, count_by, All, IsTrue, refl, sym, ap, ◌∙◌, subst, arith, ⊎_elim, length-take, length-drop}
-use Rattle.std.proofs.lemmas.Bool.{cases_lt, eq-eqb, eqb-true}
+use Rattle.std.proofs.lemmas.Bool.{cases_lt, eq-eqb, eqb-true, and_parts, and_from}
 use Rattle.std.proofs.lemmas.Bool.Decides.{same_from_decides}
 use Rattle.std.proofs.lemmas.Nat.{div-add-mod', div-mul-add, mod-mul-add}
 use Rattle.std.proofs.lemmas.List.{length-map, get_or-map, get_or-take, get_or-drop, length-take-le}
@@ -14,7 +14,7 @@ use Rattle.drg_arrays.specs.IntersectionArray.{IsCount, IsNearerNeighbour, IsFar
 use Rattle.drg_arrays.specs.Answer.{IsIrregularAt}
 use Rattle.drg_arrays.specs.Tables.{AreDistances, AreCounts, AreFirstPlaces, IsFirstPlace, IsAlikeAt, IsFirstUnlike}
 use Rattle.drg_arrays.proofs.Walks.{IsDistance-same, each_distance}
-use Rattle.drg_arrays.proofs.Counting.{is_nearer, is_farther, both-true, both-first, both-second}
+use Rattle.drg_arrays.proofs.Counting.{is_counted}
 
 -- a property has only one count
 pub IsCount-same : (G : Graph) (P : ℕ → Type 0) (m n : ℕ) → IsCount G P m → IsCount G P n → m ≡ n
@@ -32,12 +32,13 @@ module _ (G : Graph) (table nearer farther firsts : List ℕ) (one : 1 ≤ G.siz
   in_table : (p : ℕ) → p < G.size * G.size → p < length table
   in_table p l = subst (λ m. p < m) (sym d.len) l
 
-  nearer_decides : (u v w : ℕ) → u < G.size → v < G.size → w < G.size → IsTrue (is_nearer G table u v w) ↔ IsNearerNeighbour G u v w
+  nearer_decides : (u v w : ℕ) → u < G.size → v < G.size → w < G.size → IsTrue (is_counted G table u v (get_or table (u * G.size + v) 0) w) ↔ IsNearerNeighbour G u v w
   nearer_decides u v w hu hv hw = (
     λ t.
-        let e = eqb-true (get_or table (u * G.size + w) 0 + 1) (get_or table (u * G.size + v) 0) (both-second (is_edge G v w) (get_or table (u * G.size + w) 0 + 1 == get_or table (u * G.size + v) 0) t) in
+        let both = and_parts (is_edge G v w) (get_or table (u * G.size + w) 0 + 1 == get_or table (u * G.size + v) 0) t in
+        let e = eqb-true (get_or table (u * G.size + w) 0 + 1) (get_or table (u * G.size + v) 0) both.1 in
         record {
-          neighbour = both-first (is_edge G v w) (get_or table (u * G.size + w) 0 + 1 == get_or table (u * G.size + v) 0) t;
+          neighbour = both.0;
           distance = get_or table (u * G.size + w) 0;
           from_u = subst (IsDistance G u v) (sym e) (d.is u v hu hv);
           nearer = d.is u w hu hw;
@@ -45,40 +46,43 @@ module _ (G : Graph) (table nearer farther firsts : List ℕ) (one : 1 ≤ G.siz
     λ h.
         let own = IsDistance-same G u v (get_or table (u * G.size + v) 0) (h.distance + 1) (d.is u v hu hv) h.from_u in
         let other = IsDistance-same G u w (get_or table (u * G.size + w) 0) h.distance (d.is u w hu hw) h.nearer in
-        both-true (is_edge G v w) (get_or table (u * G.size + w) 0 + 1 == get_or table (u * G.size + v) 0) h.neighbour (eq-eqb (get_or table (u * G.size + w) 0 + 1) (get_or table (u * G.size + v) 0) (omega (arith, own, other))),
+        and_from (is_edge G v w) (get_or table (u * G.size + w) 0 + 1 == get_or table (u * G.size + v) 0) h.neighbour (eq-eqb (get_or table (u * G.size + w) 0 + 1) (get_or table (u * G.size + v) 0) (omega (arith, own, other))),
   )
 
-  farther_decides : (u v w : ℕ) → u < G.size → v < G.size → w < G.size → IsTrue (is_farther G table u v w) ↔ IsFartherNeighbour G u v w
+  farther_decides : (u v w : ℕ) → u < G.size → v < G.size → w < G.size → IsTrue (is_counted G table u v (get_or table (u * G.size + v) 0 + 2) w) ↔ IsFartherNeighbour G u v w
   farther_decides u v w hu hv hw = (
     λ t.
-        let e = eqb-true (get_or table (u * G.size + w) 0) (get_or table (u * G.size + v) 0 + 1) (both-second (is_edge G v w) (get_or table (u * G.size + w) 0 == get_or table (u * G.size + v) 0 + 1) t) in
+        let both = and_parts (is_edge G v w) (get_or table (u * G.size + w) 0 + 1 == get_or table (u * G.size + v) 0 + 2) t in
+        let e = eqb-true (get_or table (u * G.size + w) 0 + 1) (get_or table (u * G.size + v) 0 + 2) both.1 in
+        let one_more : get_or table (u * G.size + w) 0 ≡ get_or table (u * G.size + v) 0 + 1 = omega (arith, e) in
         record {
-          neighbour = both-first (is_edge G v w) (get_or table (u * G.size + w) 0 == get_or table (u * G.size + v) 0 + 1) t;
+          neighbour = both.0;
           distance = get_or table (u * G.size + v) 0;
           from_u = d.is u v hu hv;
-          farther = subst (IsDistance G u w) e (d.is u w hu hw);
+          farther = subst (IsDistance G u w) one_more (d.is u w hu hw);
         },
     λ h.
         let own = IsDistance-same G u v (get_or table (u * G.size + v) 0) h.distance (d.is u v hu hv) h.from_u in
         let other = IsDistance-same G u w (get_or table (u * G.size + w) 0) (h.distance + 1) (d.is u w hu hw) h.farther in
-        both-true (is_edge G v w) (get_or table (u * G.size + w) 0 == get_or table (u * G.size + v) 0 + 1) h.neighbour (eq-eqb (get_or table (u * G.size + w) 0) (get_or table (u * G.size + v) 0 + 1) (omega (arith, own, other))),
+        and_from (is_edge G v w) (get_or table (u * G.size + w) 0 + 1 == get_or table (u * G.size + v) 0 + 2) h.neighbour (eq-eqb (get_or table (u * G.size + w) 0 + 1) (get_or table (u * G.size + v) 0 + 2) (omega (arith, own, other))),
   )
 
   -- the tables have the numbers of each pair
   pub numbers_of : (u v : ℕ) → u < G.size → v < G.size → HasNumbers G u v (get_or nearer (u * G.size + v) 0) (get_or farther (u * G.size + v) 0)
   numbers_of u v hu hv =
       let low = place_below G.size u v hu hv in
+      let own = get_or table (u * G.size + v) 0 in
       let row : (u * G.size + v) / G.size ≡ u = div-mul-add u G.size v hv in
       let column : (u * G.size + v) % G.size ≡ v = mod-mul-add u G.size v hv in record {
         nearer = record {
-          test = is_nearer G table u v;
+          test = is_counted G table u v own;
           decides = λ w hw. nearer_decides u v w hu hv hw;
-          counts = sym (n.nearer_is (u * G.size + v) low ∙ (λ i. count_by (is_nearer G table (row i) (column i)) (points G.size)));
+          counts = sym (n.nearer_is (u * G.size + v) low ∙ (λ i. count_by (is_counted G table (row i) (column i) own) (points G.size)));
         };
         farther = record {
-          test = is_farther G table u v;
+          test = is_counted G table u v (own + 2);
           decides = λ w hw. farther_decides u v w hu hv hw;
-          counts = sym (n.farther_is (u * G.size + v) low ∙ (λ i. count_by (is_farther G table (row i) (column i)) (points G.size)));
+          counts = sym (n.farther_is (u * G.size + v) low ∙ (λ i. count_by (is_counted G table (row i) (column i) (own + 2)) (points G.size)));
         };
       }
 

@@ -7,14 +7,14 @@ use Rattle.std.proofs.lemmas.List.Elements.{All-from_get_or}
 use Rattle.std.proofs.lemmas.List.FromFn.{length-map-range_with_len}
 use Rattle.pair_colours.specs.Colouring.{PairColouring, IsColouring, FitsColouring, IsColour}
 use Rattle.pair_colours.proofs.Places.{place_below}
+use Rattle.pair_colours.proofs.ColourSets.{edge_set_or_not}
 use Rattle.pair_colours.proofs.Reaching.{IsFirstBelow, first_below, all_below}
 use Rattle.drg_arrays.specs.declared.levels.TheConstants.{UNREACHED}
 use Rattle.drg_arrays.specs.declared.answer.ArrayAnswer.{ArrayAnswer}
 use Rattle.drg_arrays.specs.declared.answer.ArrayAnswer.TheVariants.{Array, Disconnected, Irregular}
-use Rattle.drg_arrays.specs.Graph.{Graph, is_edge, IsEdge, IsSimple, graph_of, IsGraphSet}
+use Rattle.drg_arrays.specs.Graph.{Graph, graph_of, IsGraphSet}
 use Rattle.drg_arrays.specs.Tables.{FitsGraph, AreDistances, IsFirstUnlike, IsAlikeAt}
 use Rattle.drg_arrays.specs.Answer.{IsGraphAnswer, IsArrayAnswer}
-use Rattle.drg_arrays.proofs.Members.{list_any-contains, Contains-from_any, Contains-colours, IsColour-contained}
 use Rattle.drg_arrays.proofs.TableLemmas.{AreDistances-from_table, IsDisconnectedAt-from_table}
 use Rattle.drg_arrays.proofs.Regular.{IsIrregularAt-from_place, HasArray-from_tables}
 use Rattle.drg_arrays.proofs.SomeDistances.{some_table}
@@ -70,51 +70,14 @@ graph_answer G f = ⊎_elim disconnected connected (first_below none (length tab
     connected all = connected_answer G table f.has_points
         (AreDistances-from_table G table f.has_points (some_table G f).1 (λ k l e. both_ways (none k) (all k l) (eq-eqb (get_or table k 0) UNREACHED e)))
 
--- a number is a colour or not, and a graph is simple or not
-pub colour_or_not : (C : PairColouring) → IsColouring C → (c : ℕ) → IsColour C c ⊎ ¬ IsColour C c
-colour_or_not C h c = ⊎_elim
-    (λ t. inl (IsColour-contained C h c (Contains-from_any C.colours c t)))
-    (λ f. inr (λ u. both_ways (list_any (λ y. y == c) C.colours) f (list_any-contains C.colours c (Contains-colours C h c u))))
-    (cases_Bool (list_any (λ y. y == c) C.colours))
-
-pub colours_or_not : (C : PairColouring) → IsColouring C → (S : List ℕ) → All (IsColour C) S ⊎ ¬ All (IsColour C) S
-colours_or_not C h S = ⊎_elim
-    (λ all. inl (All-from_get_or (IsColour C) S 0 all))
-    (λ not. inr (λ all. not (λ k l. all k 0 l)))
-    (all_below (λ k. IsColour C (get_or S k 0)) (length S) (λ k l. colour_or_not C h (get_or S k 0)))
-
-loopless_or_not : (G : Graph) → ((x : ℕ) → x < G.size → ¬ IsEdge G x x) ⊎ ¬ ((x : ℕ) → x < G.size → ¬ IsEdge G x x)
-loopless_or_not G = all_below (λ x. ¬ IsEdge G x x) G.size
-    (λ x hx. ⊎_elim (λ t. inr (λ no. no t)) (λ f. inl (λ t. both_ways (is_edge G x x) f t)) (cases_Bool (is_edge G x x)))
-
-undirected_or_not : (G : Graph) → ((x : ℕ) → x < G.size → (y : ℕ) → y < G.size → IsEdge G x y → IsEdge G y x)
-    ⊎ ¬ ((x : ℕ) → x < G.size → (y : ℕ) → y < G.size → IsEdge G x y → IsEdge G y x)
-undirected_or_not G = all_below (λ x. (y : ℕ) → y < G.size → IsEdge G x y → IsEdge G y x) G.size
-    (λ x hx. all_below (λ y. IsEdge G x y → IsEdge G y x) G.size
-    (λ y hy. ⊎_elim
-    (λ t. inl (λ _. t))
-    (λ f. ⊎_elim (λ e. inr (λ turn. both_ways (is_edge G y x) f (turn e))) (λ g. inl (λ e. absurd (both_ways (is_edge G x y) g e))) (cases_Bool (is_edge G x y)))
-    (cases_Bool (is_edge G y x))))
-
-simple_or_not : (G : Graph) → IsSimple G ⊎ ¬ IsSimple G
-simple_or_not G = ⊎_elim
-    (λ l. ⊎_elim
-    (λ u. inl (record { loopless = l; undirected = λ x y hx hy e. u x hx y hy e }))
-    (λ not. inr (λ s. not (λ x hx y hy e. s.undirected x y hx hy e)))
-    (undirected_or_not G))
-    (λ not. inr (λ s. not s.loopless))
-    (loopless_or_not G)
-
+-- a set of colours is that of a graph or not
 pub graph_set_or_not : (C : PairColouring) → IsColouring C → (S : List ℕ) → IsGraphSet C S ⊎ ¬ IsGraphSet C S
 graph_set_or_not C h S = ⊎_elim
     (λ e. inr (λ g. g.chosen (nil_from_length S e)))
     (λ ne. ⊎_elim
-    (λ colours. ⊎_elim
-    (λ simple. inl (record { chosen = λ e. ne (ap length e); colours = colours; simple = simple }))
-    (λ not. inr (λ g. not g.simple))
-    (simple_or_not (graph_of C S)))
-    (λ not. inr (λ g. not g.colours))
-    (colours_or_not C h S))
+    (λ edges. inl (record { chosen = λ e. ne (ap length e); edges = edges }))
+    (λ not. inr (λ g. not g.edges))
+    (edge_set_or_not C h S))
     (cases_eq (length S) 0)
 
 FitsGraph-graph_of : (C : PairColouring) → FitsColouring C → (S : List ℕ) → FitsGraph (graph_of C S)

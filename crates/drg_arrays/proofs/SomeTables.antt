@@ -1,5 +1,5 @@
 -- The tables that stand on the distances: counts, first places, and the first place with other counts.
-use Rattle.std.proofs.Common.{◌≡◌, ◌==◌, ◌&&◌, ℕ, zero, suc, ◌*◌, ◌/◌, ◌%◌, ◌<◌, ◌≤◌, Bool, true, not, List, length, get_or, map, ◌⊎◌, inl, inr, refl, sym, ap, subst, arith, ⊎_elim}
+use Rattle.std.proofs.Common.{◌≡◌, ◌==◌, ◌&&◌, ℕ, zero, suc, ◌+◌, ◌*◌, ◌/◌, ◌%◌, ◌<◌, ◌≤◌, Bool, true, not, List, length, get_or, map, ◌⊎◌, inl, inr, refl, sym, ap, subst, arith, ⊎_elim}
 use Rattle.std.specs.List.{position_or_len}
 use Rattle.std.proofs.lemmas.Bool.{cases_lt, eq-eqb, eqb-true, and_parts, and_from, both_ways, not-true, not-false}
 use Rattle.std.proofs.lemmas.List.FromFn.{get_or-map-range_with_len, length-map-range_with_len}
@@ -8,13 +8,13 @@ use Rattle.pair_colours.specs.Colouring.{points}
 use Rattle.pair_colours.proofs.Places.{first_place}
 use Rattle.pair_colours.proofs.Reaching.{first_below}
 use Rattle.drg_arrays.specs.Graph.{Graph}
-use Rattle.drg_arrays.specs.Tables.{nearer_count, farther_count, AreCounts, IsFirstPlace, AreFirstPlaces, IsAlikeAt, IsFirstUnlike}
+use Rattle.drg_arrays.specs.Tables.{neighbour_count, AreCounts, IsFirstPlace, AreFirstPlaces, IsAlikeAt, IsFirstUnlike}
 
 pub some_counts : (G : Graph) (table : List ℕ) → (nearer : List ℕ) × ((farther : List ℕ) × AreCounts G table nearer farther)
 some_counts G table =
     let n = G.size * G.size in
-    let near : ℕ → ℕ = λ p. nearer_count G table (p / G.size) (p % G.size) in
-    let far : ℕ → ℕ = λ p. farther_count G table (p / G.size) (p % G.size) in (
+    let near : ℕ → ℕ = λ p. neighbour_count G table (p / G.size) (p % G.size) (get_or table p 0) in
+    let far : ℕ → ℕ = λ p. neighbour_count G table (p / G.size) (p % G.size) (get_or table p 0 + 2) in (
       map near (points n),
       (
         map far (points n),

@@ -1,7 +1,7 @@
 -- Graphs, and the graph of a set of colours (Brouwer, Cohen and Neumaier, Distance-Regular Graphs, 1989, sections 1.1 and 2.1).
-use Rattle.std.specs.Prelude.{◌≢◌, ◌==◌, ◌+◌, ◌*◌, ◌<◌, ℕ, Bool, false, IsTrue, List, [], map, slice_index_or, All}
-use Rattle.std.specs.List.{list_any}
-use Rattle.pair_colours.specs.Colouring.{PairColouring, IsColour}
+use Rattle.std.specs.Prelude.{◌≢◌, ◌+◌, ◌*◌, ℕ, Bool, false, IsTrue, List, [], map, slice_index_or}
+use Rattle.pair_colours.specs.Colouring.{PairColouring}
+use Rattle.pair_colours.specs.ColourSets.{is_in, IsEdgeSet}
 
 -- a graph on the points 0 to size - 1: whether (x, y) is an edge stands at place x * size + y
 pub record Graph : Type 0 where
@@ -15,17 +15,11 @@ is_edge G x y = slice_index_or G.edges (x * G.size + y) false
 abbrev pub IsEdge : Graph → ℕ → ℕ → Type 0
 IsEdge G x y = IsTrue (is_edge G x y)
 
--- undirected, and with no loop
-pub record IsSimple (G : Graph) : Type 0 where
-  pub loopless : (x : ℕ) → x < G.size → ¬ IsEdge G x x
-  pub undirected : (x y : ℕ) → x < G.size → y < G.size → IsEdge G x y → IsEdge G y x
-
 -- the graph whose edges are the pairs with a colour in the set
 abbrev pub graph_of : PairColouring → List ℕ → Graph
-graph_of C S = record { size = C.size; edges = map (λ colour. list_any (λ s. s == colour) S) C.colours }
+graph_of C S = record { size = C.size; edges = map (is_in S) C.colours }
 
--- some colour is chosen, each is the colour of a pair, and their pairs are the edges of a simple graph
+-- some colour is chosen, and the pairs of the chosen colours are the edges of a simple graph
 pub record IsGraphSet (C : PairColouring) (S : List ℕ) : Type 0 where
   pub chosen : S ≢ []
-  pub colours : All (IsColour C) S
-  pub simple : IsSimple (graph_of C S)
+  pub edges : IsEdgeSet C S

@@ -52,21 +52,16 @@ pub record AreDistances (G : Graph) (table : List ℕ) : Type 0 where
   pub is : (x y : ℕ) → x < G.size → y < G.size → IsDistance G x y (slice_index table (x * G.size + y))
   pub small : (p : ℕ) → p < length table → slice_index table p < G.size
 
--- how many neighbours of v the table has one step nearer to u, and how many one step farther from u
-abbrev pub nearer_count : Graph → List ℕ → ℕ → ℕ → ℕ
-nearer_count G table u v =
-    count_by (λ w. is_edge G v w && (slice_index table (u * G.size + w) + 1 == slice_index table (u * G.size + v))) (points G.size)
+-- how many neighbours of v the table has at the distance just below `end` from u
+abbrev pub neighbour_count : Graph → List ℕ → ℕ → ℕ → ℕ → ℕ
+neighbour_count G table u v end = count_by (λ w. is_edge G v w && (slice_index table (u * G.size + w) + 1 == end)) (points G.size)
 
-abbrev pub farther_count : Graph → List ℕ → ℕ → ℕ → ℕ
-farther_count G table u v =
-    count_by (λ w. is_edge G v w && (slice_index table (u * G.size + w) == slice_index table (u * G.size + v) + 1)) (points G.size)
-
--- these counts of all pairs, row by row
+-- for each pair (u, v), row by row: how many neighbours of v are one step nearer to u than v is, and how many one step farther
 pub record AreCounts (G : Graph) (table nearer farther : List ℕ) : Type 0 where
   pub nearer_len : length nearer ≡ G.size * G.size
   pub farther_len : length farther ≡ G.size * G.size
-  pub nearer_is : (p : ℕ) → p < G.size * G.size → slice_index nearer p ≡ nearer_count G table (p / G.size) (p % G.size)
-  pub farther_is : (p : ℕ) → p < G.size * G.size → slice_index farther p ≡ farther_count G table (p / G.size) (p % G.size)
+  pub nearer_is : (p : ℕ) → p < G.size * G.size → slice_index nearer p ≡ neighbour_count G table (p / G.size) (p % G.size) (slice_index table p)
+  pub farther_is : (p : ℕ) → p < G.size * G.size → slice_index farther p ≡ neighbour_count G table (p / G.size) (p % G.size) (slice_index table p + 2)
 
 -- q is the first place with the number that stands at p
 pub record IsFirstPlace (xs : List ℕ) (p q : ℕ) : Type 0 where

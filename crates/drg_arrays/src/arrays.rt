@@ -1,6 +1,7 @@
 //! Whether the graph of a set of colours is distance-regular.
 
 ghost use Rattle.std.specs.Prelude.{◌≡◌, ◌+◌, ◌*◌, ◌<◌, ◌≤◌, ℕ, IfOk, OnOk, IsErrOf, All, map, length, slice_index};
+ghost use Rattle.pair_colours.specs.declared.coloured_pairs.TheConstants.{MOST_POINTS};
 ghost use Rattle.drg_arrays.specs.Graph.{IsGraphSet};
 ghost use Rattle.drg_arrays.specs.Tables.{AreDistances};
 ghost use Rattle.drg_arrays.specs.Answer.{IsArrayAnswer, IsOnlyAnswer, IsGraphAnswer};
@@ -8,9 +9,9 @@ ghost use Rattle.drg_arrays.specs.Answer.{IsArrayAnswer, IsOnlyAnswer, IsGraphAn
 use crate::answer::{ArrayAnswer, ArrayFault};
 use crate::counts::counts_of;
 use crate::distances::{distances, first_unreached, greatest};
-use crate::graph::{EdgeTable, are_colours, colours_of, graph_of};
+use crate::graph::{EdgeTable, graph_of};
 use crate::places::{first_places, first_unlike};
-use pair_colours::{Colouring, NoMemory, Numbers};
+use pair_colours::{Colouring, NoMemory, Numbers, is_edge_set};
 use std::alloc::Global;
 
 /// Judges the graph whose edges are the pairs with a colour in the set. The set may hold a colour
@@ -21,14 +22,10 @@ pub fn array(alloc: Global, relation: &Colouring, set: &[u32]) -> Result<ArrayAn
     ensures good { OnOk result (IsGraphSet relation.now set.now) }
     ensures bad { IsErrOf result ArrayFault.BadSet → ¬ IsGraphSet relation.now set.now }
 {
-    let colours = colours_of(alloc, relation)?;
-    if set.is_empty() || !are_colours(alloc, &colours, set)? {
+    if set.is_empty() || !is_edge_set(alloc, relation, set)? {
         return Err(ArrayFault::BadSet);
     }
-    let graph = graph_of(alloc, relation, &colours, set)?;
-    if !graph.is_simple() {
-        return Err(ArrayFault::BadSet);
-    }
+    let graph = graph_of(alloc, relation, set)?;
     Ok(judged(alloc, &graph)?)
 }
 
@@ -65,20 +62,20 @@ fn compared(alloc: Global, graph: &EdgeTable, distances: &[u32]) -> Result<Array
         });
     }
     let diameter = greatest(distances) as usize;
-    let b = picked(alloc, &firsts[..diameter], &counts.farther)?;
-    let c = picked(alloc, &firsts[1..diameter + 1], &counts.nearer)?;
+    let b = numbers_at(alloc, &firsts[..diameter], &counts.farther)?;
+    let c = numbers_at(alloc, &firsts[1..diameter + 1], &counts.nearer)?;
     Ok(ArrayAnswer::Array { b, c })
 }
 
 // The numbers at these places.
-fn picked(alloc: Global, places: &[usize], numbers: &[u32]) -> Result<Numbers, NoMemory>
-    requires few { length places.now ≤ 128 }
+fn numbers_at(alloc: Global, places: &[usize], numbers: &[u32]) -> Result<Numbers, NoMemory>
+    requires few { length places.now ≤ MOST_POINTS }
     requires within { All (λ place. place < length numbers.now) places.now }
-    ensures { IfOk result (λ picked. picked ≡ map (λ place. slice_index numbers.now place) places.now) }
+    ensures { IfOk result (λ found. found ≡ map (λ place. slice_index numbers.now place) places.now) }
 {
-    let mut picked = Numbers::new(alloc);
+    let mut found = Numbers::new(alloc);
     for place in places {
-        picked.push(numbers[*place])?;
+        found.push(numbers[*place])?;
     }
-    Ok(picked)
+    Ok(found)
 }

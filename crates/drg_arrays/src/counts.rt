@@ -1,7 +1,7 @@
 // How many neighbours of a point are nearer to another point, and how many farther.
 
 ghost use Rattle.std.specs.Prelude.{◌≡◌, ◌+◌, ◌*◌, ◌<◌, ◌≤◌, ℕ, IfOk, All, length};
-ghost use Rattle.drg_arrays.specs.Tables.{AreCounts, nearer_count, farther_count};
+ghost use Rattle.drg_arrays.specs.Tables.{AreCounts, neighbour_count};
 
 use crate::graph::EdgeTable;
 use pair_colours::NoMemory;
@@ -14,41 +14,20 @@ pub(crate) struct Counts {
     pub(crate) farther: Vec<u32>,
 }
 
-// How many neighbours of v are one step nearer to u than v is. The comparison stands before the
-// branch, here and below, so that the compiled loop has no branch.
-fn nearer(graph: &EdgeTable, distances: &[u32], u: usize, v: usize) -> u32
+// How many neighbours of v are at the distance just below `end` from u. The comparison stands before
+// the branch, so that the compiled loop has no branch.
+fn neighbour_count(graph: &EdgeTable, distances: &[u32], u: usize, v: usize, end: u32) -> u32
     requires row { u < graph.now.size }
     requires column { v < graph.now.size }
     requires len { length distances.now ≡ graph.now.size * graph.now.size }
     requires small { All (λ distance. distance < graph.now.size) distances.now }
-    ensures { result ≡ nearer_count graph.now distances.now u v }
+    ensures { result ≡ neighbour_count graph.now distances.now u v end }
 {
     let row = u * graph.size();
-    let own = distances[row + v];
     let mut count = 0;
     for w in 0..graph.size() {
-        let is_nearer = distances[row + w] + 1 == own;
-        if graph.has_edge(v, w) && is_nearer {
-            count += 1;
-        }
-    }
-    count
-}
-
-// How many neighbours of v are one step farther from u than v is.
-fn farther(graph: &EdgeTable, distances: &[u32], u: usize, v: usize) -> u32
-    requires row { u < graph.now.size }
-    requires column { v < graph.now.size }
-    requires len { length distances.now ≡ graph.now.size * graph.now.size }
-    requires small { All (λ distance. distance < graph.now.size) distances.now }
-    ensures { result ≡ farther_count graph.now distances.now u v }
-{
-    let row = u * graph.size();
-    let own = distances[row + v];
-    let mut count = 0;
-    for w in 0..graph.size() {
-        let is_farther = distances[row + w] == own + 1;
-        if graph.has_edge(v, w) && is_farther {
+        let is_there = distances[row + w] + 1 == end;
+        if graph.has_edge(v, w) && is_there {
             count += 1;
         }
     }
@@ -72,8 +51,11 @@ pub(crate) fn counts_of(
     };
     for place in 0..distances.len() {
         let (u, v) = (place / graph.size(), place % graph.size());
-        counts.nearer.push(nearer(graph, distances, u, v))?;
-        counts.farther.push(farther(graph, distances, u, v))?;
+        let own = distances[place];
+        let nearer = neighbour_count(graph, distances, u, v, own);
+        counts.nearer.push(nearer)?;
+        let farther = neighbour_count(graph, distances, u, v, own + 2);
+        counts.farther.push(farther)?;
     }
     Ok(counts)
 }

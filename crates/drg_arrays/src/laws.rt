@@ -1,8 +1,10 @@
 //! Laws over the definitions alone. Each is the contract of a function that does nothing.
 
-ghost use Rattle.drg_arrays.specs.Law.{AnswerExists};
+ghost use Rattle.drg_arrays.specs.Law.{AnswerExists, AnswerIsUnique};
 
 /// Whether a set of colours is that of a graph is decided, and where it is, some answer is right.
+/// No graph has more than one right answer.
 pub fn some_answer()
-    ensures { AnswerExists }
+    ensures exists { AnswerExists }
+    ensures unique { AnswerIsUnique }
 {}

@@ -3,12 +3,12 @@
 //!
 //! * `arrays`: `array`, the call that judges a graph.
 //! * `answer`: `ArrayAnswer` and `ArrayFault`, what it answers.
-//! * `graph`: the edges that a set of colours chooses, and whether they are those of a simple graph.
+//! * `graph`: the edges that a set of colours chooses.
 //! * `levels`: the distances from one point, by a search level by level.
 //! * `distances`: the distances of all pairs, and the first pair that has none.
 //! * `counts`: how many neighbours of a point are nearer, and how many farther.
 //! * `places`: the first place of each distance, and the first place whose counts differ from it.
-//! * `laws`: every set of colours has an answer.
+//! * `laws`: every graph has an answer, and only one.
 //!
 //! The definitions stand in `specs/`. They speak of walks; the search speaks of levels.
 #![tactic(auto)]

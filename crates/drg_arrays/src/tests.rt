@@ -1,4 +1,5 @@
 ghost use Rattle.std.specs.Prelude.{◌≤◌};
+ghost use Rattle.pair_colours.specs.declared.coloured_pairs.TheConstants.{MOST_POINTS};
 
 use crate::*;
 use pair_colours::{Colouring, NoMemory};
@@ -44,7 +45,7 @@ const PETERSEN: [(u32, u32); 15] = [
 // The colouring with 0 on the diagonal, 1 on the arcs and 2 elsewhere.
 fn directed(alloc: Global, size: u32, arcs: &[(u32, u32)]) -> Result<Colouring, NoMemory>
     requires has_points { 1 ≤ size }
-    requires limit { size ≤ 128 }
+    requires limit { size ≤ MOST_POINTS }
 {
     let mut relation = Colouring::new(alloc, size, 2)?;
     for x in 0..size {
@@ -61,7 +62,7 @@ fn directed(alloc: Global, size: u32, arcs: &[(u32, u32)]) -> Result<Colouring, 
 // The same with an arc each way for each edge.
 fn undirected(alloc: Global, size: u32, edges: &[(u32, u32)]) -> Result<Colouring, NoMemory>
     requires has_points { 1 ≤ size }
-    requires limit { size ≤ 128 }
+    requires limit { size ≤ MOST_POINTS }
 {
     let mut arcs = Vec::new(alloc);
     for (x, y) in edges {

@@ -21,8 +21,8 @@ returns-in-Some c =
     subst (λ n. IsIrregularAt G (q / n) (q % n) (p / n) (p % n)) (sym c.size-size.ensures.points)
     (IsIrregularAt-from_place G table nearer farther firsts c.size-size.ensures.within.has_points c.requires c.in_ok-counts.ensures c.in_ok-firsts.ensures.at p q unlike first)
 
-pub picked-requires-clause-within : goal.picked-requires-clause-within
-picked-requires-clause-within c =
+pub numbers_at-requires-clause-within : goal.numbers_at-requires-clause-within
+numbers_at-requires-clause-within c =
     let G = c.args.graph.now in
     let d = c.greatest-diameter.result in
     let firsts = c.in_ok-firsts.firsts.items in
@@ -32,8 +32,8 @@ picked-requires-clause-within c =
     (farther_within G c.args.distances.now c.in_ok-counts.counts.nearer.items farther firsts c.size-size.ensures.within.has_points c.requires c.in_ok-counts.ensures c.in_ok-firsts.ensures.at
     d (c.in_ok-firsts.ensures.len ∙ c.size-size.ensures.points) c.greatest-diameter.ensures.bound c.greatest-diameter.ensures.found))
 
-pub picked-requires-2-clause-within : goal.picked-requires-2-clause-within
-picked-requires-2-clause-within c =
+pub numbers_at-requires-2-clause-within : goal.numbers_at-requires-2-clause-within
+numbers_at-requires-2-clause-within c =
     let G = c.args.graph.now in
     let d = c.greatest-diameter.result in
     let firsts = c.in_ok-firsts.firsts.items in

@@ -4,7 +4,7 @@ use Rattle.std.proofs.lemmas.Bool.{eqb-true, eq-eqb, and_parts, and_from}
 use Rattle.std.proofs.lemmas.List.Sorted.{sum_by-IsPermutation}
 use Rattle.pair_colours.specs.Colouring.{PairColouring, IsColouring, Refines, colour_at, points, triangles}
 use Rattle.pair_colours.specs.Closure.{Coherent, IsClosure}
-use Rattle.pair_colours.specs.Rounds.{Alike, IsRound, IsOnTheWay}
+use Rattle.pair_colours.specs.Rounds.{Alike, IsRound}
 use Rattle.pair_colours.proofs.Counts.{count_by-map, count_by_points, IsPermutation-from_counts}
 use Rattle.pair_colours.proofs.Places.{over, over_at, Refines-refl}
 
@@ -70,6 +70,12 @@ alike_in Q P q h r x y u v hx hy hu hv e =
 -- a bound in one of two equal sizes
 within : (m n x : ℕ) → m ≡ n → x < n → x < m
 within m n x e h = omega (arith, e, h)
+
+-- P refines C, and is no finer than any coherent colouring that refines C
+pub record IsOnTheWay (C P : PairColouring) : Type 0 where
+  pub colouring : IsColouring P
+  pub refines : Refines P C
+  pub coarse : (Q : PairColouring) → IsColouring Q → Coherent Q → Refines Q C → Refines Q P
 
 pub on_the_way-start : (C : PairColouring) → IsColouring C → IsOnTheWay C C
 on_the_way-start C h = record { colouring = h; refines = Refines-refl C; coarse = λ Q q h r. r }

@@ -2,11 +2,11 @@ use Rattle.std.proofs.Common.{◌≡◌, ℕ, ◌<◌, ⊎_elim, refl, sym, subs
 use Rattle.pair_colours.specs.Colouring.{PairColouring, Refines}
 use Rattle.pair_colours.specs.Closure.{Coherent, IsClosure, IsClosureOf}
 use Rattle.pair_colours.specs.Naming.{named_of}
-use Rattle.pair_colours.specs.Rounds.{IsRound, IsOnTheWay}
+use Rattle.pair_colours.specs.Rounds.{IsRound}
 use Rattle.pair_colours.proofs.Closures.{IsClosureOf-named_of}
 use Rattle.pair_colours.proofs.Measure.{alike_places, fewer_or_refines}
 use Rattle.pair_colours.proofs.Places.{Refines-trans}
-use Rattle.pair_colours.proofs.Rounds.{alike_in, round_refines}
+use Rattle.pair_colours.proofs.Rounds.{IsOnTheWay, alike_in, round_refines}
 use Rattle.wl_refine.specs.Splits.{IsPartialRound, IsSplit}
 
 -- a round is a partial round

@@ -1,5 +1,5 @@
-use Rattle.pair_colours.specs.Rounds.{IsOnTheWay}
 use Rattle.pair_colours.proofs.Measure.{alike_places}
+use Rattle.pair_colours.proofs.Rounds.{IsOnTheWay}
 use Rattle.wl_refine.proofs.closing.stable.Given as goal
 
 abbrev pub invariant-loop-current : goal.invariant-loop-current

@@ -2,7 +2,7 @@
 use Rattle.std.proofs.Common.{◌≡◌, ◌≤◌, ◌<◌, ◌⊎◌, ℕ, ◌+◌, Bool, true, false, not, cond, List, [], ◌∷◌, ◌++◌, length, get_or, take, drop, Option, Some, None, ⊎_elim, refl, sym, ap, subst, ◌∙◌, arith, append_assoc, inl, inr, suc, zero}
 use Rattle.std.proofs.lemmas.List.{take_more, drop_more, take-append-drop, append-nil, get_or-drop, length-drop}
 use Rattle.std.proofs.lemmas.Option.{slice_get-get_or, slice_get_within}
-use Rattle.std.specs.Prelude.{Result, Ok, Err, IfErr, OnErr, MatchOption, find, option_map, slice_get, codes}
+use Rattle.std.specs.Prelude.{◌≢◌, Result, Ok, Err, IfErr, OnErr, MatchOption, find, option_map, slice_get, codes}
 use Rattle.std.proofs.KnownBytes.{Appends-nil, Appends-trans}
 use Rattle.std.specs.Io.KnownBytes.{Appends}
 use Rattle.scheme_io.specs.Bytes.{AppendsPart}
@@ -10,6 +10,8 @@ use Rattle.pair_colours.specs.Colouring.{PairColouring, FitsColouring}
 use Rattle.pair_colours.specs.Naming.{rank_of}
 use Rattle.pair_colours.proofs.Closures.{named_closure_exists}
 use Rattle.recolour_bench.specs.History.{History, IsHistory, present, started}
+use Rattle.recolour_bench.specs.declared.edits.EditFault.{EditFault}
+use Rattle.recolour_bench.specs.declared.edits.EditFault.TheVariants as faults
 use Rattle.recolour_bench.specs.Steps as steps
 use Rattle.recolour_bench.proofs.Stepping.{IsRawColouring-closure, IsRawColouring-present, step_exists, step_keeps}
 use Rattle.report_text.specs.EditLines.{ok_text, refused_text_of}
@@ -37,7 +39,7 @@ use Rattle.cohere_core.proofs.EdgeSets.{edge_set_or_not}
 use Rattle.cohere_core.specs.declared.answering.SessionFault.{SessionFault}
 use Rattle.cohere_core.specs.declared.answering.SessionFault.TheVariants.{SinkFailed, NoMemory}
 use Rattle.cohere_core.specs.Acts.{is_built, AreBuilt, first_unbuilt}
-use Rattle.cohere_core.specs.Answer.{AnswersArray, WritesGraph, OfConfiguration, IsHalfway, Moves, Tells, Answers, Runs, Answered, Stopped, edit_word, move_of}
+use Rattle.cohere_core.specs.Answer.{AnswersArray, WritesGraph, OfConfiguration, IsHalfway, MoveTakesMemory, Moves, TakesMemory, Tells, Answers, Runs, Answered, Stopped, edit_word, move_of}
 use Rattle.cohere_core.specs.Output.{AddsScriptFront, ScriptOutput}
 use Rattle.cohere_core.proofs.Pieces.{take_into}
 
@@ -104,7 +106,7 @@ has_answer h act i b =
     ] refl
 
 -- an answer leads to a history
-answer_keeps : (h : History) (act : Act) (next : History) (t : List ℕ) → IsHistory h → Answers h act next t → IsHistory next
+pub answer_keeps : (h : History) (act : Act) (next : History) (t : List ℕ) → IsHistory h → Answers h act next t → IsHistory next
 answer_keeps h act next t i a =
     elim (move_of act) as (λ m. MatchOption m ((next ≡ h) × Tells h act t) (λ move. Moves h move next t) → IsHistory next) [
       | None ↦ λ q. subst IsHistory (sym q.0) i
@@ -150,6 +152,17 @@ answer_has_bytes h act next t a =
       | None ↦ λ q. query_has_bytes h act t q.1
       | Some move ↦ λ m. ⊎_elim (λ accepts. subst (λ (s : List ℕ). 0 < length s) (sym accepts.1.holds) (omega arith)) (λ refused. subst (λ (s : List ℕ). 0 < length s) (sym refused.3) (omega arith)) m
     ] a
+
+-- an act that was not carried out, and whose refusal was not made
+refused_halfway : (fault : EditFault) (h next : History) (move : steps.Act) → (fault ≡ faults.NoMemory → MoveTakesMemory move)
+    → (fault ≢ faults.NoMemory → steps.refusal h move ≡ Some fault) → next ≡ h → IsHalfway (MoveTakesMemory move) h next (Moves h move next)
+refused_halfway faults.NoMemory h next move memory refused same = inl (memory refl, same)
+refused_halfway fault h next move memory refused same = inr (refused_text_of (edit_word fault), inr (fault, refused (λ e. cc), same, refl))
+
+pub refused_unanswered : {T E : Type 0} (result : Result T E) (fault : EditFault) (h next : History) (move : steps.Act) → (fault ≡ faults.NoMemory → MoveTakesMemory move)
+    → (fault ≢ faults.NoMemory → steps.refusal h move ≡ Some fault) → next ≡ h → OnErr result (IsHalfway (MoveTakesMemory move) h next (Moves h move next))
+refused_unanswered (Ok text) fault h next move memory refused same = tt
+refused_unanswered (Err wanting) fault h next move memory refused same = refused_halfway fault h next move memory refused same
 
 -- ---- runs
 
@@ -230,7 +243,7 @@ cut_short lines i d h m next a b c answer lt answers so_far part = record {
 
 -- an answer was not made, and the bench stands before its line or after it
 not_made : (lines : List Line) (i : ℕ) (d : Line) (h m next bench : History) (a b : Option (List ℕ)) (answer : List ℕ) → i < length lines → Answers m (get_or lines i d).act next answer
-    → Answered h (take i lines) m a b → (bench ≡ m) ⊎ (bench ≡ next) → Stopped NoMemory h lines bench a b
+    → Answered h (take i lines) m a b → (TakesMemory (get_or lines i d).act × (bench ≡ m)) ⊎ (bench ≡ next) → Stopped NoMemory h lines bench a b
 not_made lines i d h m next bench a b answer lt answers so_far stands = record {
   count = i;
   at = m;
@@ -250,7 +263,7 @@ not_made lines i d h m next bench a b answer lt answers so_far stands = record {
 }
 
 pub unanswered : (lines : List Line) (i : ℕ) (d : Line) (h m bench : History) (a b : Option (List ℕ)) → i < length lines → IsHistory m → AreBuilt lines
-    → Answered h (take i lines) m a b → IsHalfway m bench (Answers m (get_or lines i d).act bench) → Stopped NoMemory h lines bench a b
+    → Answered h (take i lines) m a b → IsHalfway (TakesMemory (get_or lines i d).act) m bench (Answers m (get_or lines i d).act bench) → Stopped NoMemory h lines bench a b
 unanswered lines i d h m bench a b lt history built so_far (inl before) =
     let s = has_answer m (get_or lines i d).act history (built i d lt) in
     not_made lines i d h m s.0 bench a b s.1 lt s.2 so_far (inl before)

@@ -1,5 +1,5 @@
 -- The answers of a script, line by line.
-use Rattle.std.specs.Prelude.{◌≡◌, ◌⊎◌, ◌<◌, ◌++◌, ℕ, List, [], ◌∷◌, length, take, slice_get, Option, Some, None, MatchOption, codes}
+use Rattle.std.specs.Prelude.{◌≡◌, ◌⊎◌, ◌<◌, ◌++◌, ℕ, List, [], ◌∷◌, length, take, slice_get, Option, Some, None, MatchOption, codes, ⊤}
 use Rattle.std.specs.Io.KnownBytes.{Appends}
 use Rattle.pair_colours.specs.Colouring.{PairColouring}
 use Rattle.pair_colours.specs.Closure.{IsClosureOf}
@@ -98,9 +98,19 @@ Tells h _ t = ⊥
 abbrev pub Answers : History → Act → History → List ℕ → Type 0
 Answers h act next t = MatchOption (move_of act) ((next ≡ h) × Tells h act t) (λ move. Moves h move next t)
 
--- an act that was not answered for want of memory leaves the history as it was, or as the answered act would have
-abbrev pub IsHalfway : History → History → (List ℕ → Type 0) → Type 0
-IsHalfway old new answers = (new ≡ old) ⊎ ((t : List ℕ) × answers t)
+-- an edit takes memory; an undo and a redo take none, so that only their answers can fail
+abbrev pub MoveTakesMemory : steps.Act → Type 0
+MoveTakesMemory (steps.edits edit) = ⊤
+MoveTakesMemory steps.undoes = ⊥
+MoveTakesMemory steps.redoes = ⊥
+
+-- only an undo and a redo are sure to take none
+abbrev pub TakesMemory : Act → Type 0
+TakesMemory act = MatchOption (move_of act) ⊤ MoveTakesMemory
+
+-- an act that was not answered for want of memory leaves the history as the answered act would have; or, if it takes memory, as it was
+abbrev pub IsHalfway : Type 0 → History → History → (List ℕ → Type 0) → Type 0
+IsHalfway takes_memory old new answers = (takes_memory × (new ≡ old)) ⊎ ((t : List ℕ) × answers t)
 
 -- the lines lead from h to end, and t is their answers, one after the other
 abbrev pub Runs : History → List Line → History → List ℕ → Type 0
@@ -113,7 +123,8 @@ abbrev pub Answered : History → List Line → History → Option (List ℕ) �
 Answered h lines end old new = (t : List ℕ) × Runs h lines end t × Appends old new t
 
 -- The first count lines were answered, and a proper prefix of the answer of the next one was added.
--- Where memory is wanting no byte of it was, and the bench stands before that line or after it; where the sink failed, after it.
+-- Where memory is wanting no byte of it was, and the bench stands before that line or after it (after it where it is an undo or a redo);
+-- where the sink failed, after it.
 pub record Stopped (fault : SessionFault) (h : History) (lines : List Line) (bench : History) (old new : Option (List ℕ)) : Type 0 where
   pub count : ℕ
   pub at : History
@@ -128,5 +139,5 @@ pub record Stopped (fault : SessionFault) (h : History) (lines : List Line) (ben
   pub proper : part < length answer
   pub added : Appends old new (text ++ take part answer)
   pub whole : fault ≡ NoMemory → part ≡ 0
-  pub stands : (bench ≡ at) ⊎ (bench ≡ next)
+  pub stands : (TakesMemory line.act × (bench ≡ at)) ⊎ (bench ≡ next)
   pub carried_out : fault ≡ SinkFailed → bench ≡ next

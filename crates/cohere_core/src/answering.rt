@@ -25,8 +25,9 @@ pub enum SessionFault {
 /// Answers the lines in order, each answer made whole before its first byte is written.
 ///
 /// A line that is refused is answered by the name of the refusal, and changes nothing. After a
-/// fault the bench stands before the line that was not answered, or after it; what was written is
-/// the answers of the lines before it, and where the sink failed a front of its answer.
+/// fault the bench stands before the line that was not answered, or after it (after it where the
+/// line is an undo or a redo); what was written is the answers of the lines before it, and where
+/// the sink failed a front of its answer.
 pub fn session<O: Sink>(
     alloc: Global,
     bench: &mut Bench,
@@ -39,6 +40,7 @@ pub fn session<O: Sink>(
     ensures failed { IsErrOf result SessionFault.SinkFailed → Rose (O.faults out.old) (O.faults out.new) }
     ensures later { O.faults out.old ≤ O.faults out.new }
 {
+    // Read for its clause alone: the bench stands for a history.
     let _start = bench.position();
     for line in lines {
         let text = match answer(alloc, bench, &line.act) {
@@ -54,7 +56,7 @@ pub fn session<O: Sink>(
 }
 
 /// Answers the lines over a relation.
-pub fn answer_script<O: Sink>(
+pub(crate) fn answer_script<O: Sink>(
     alloc: Global,
     relation: Colouring,
     lines: &[Line],

@@ -1,12 +1,12 @@
 // The answer of one line: edits, undo and redo here, and the others by `queries`.
-ghost use Rattle.std.specs.Prelude.{◌≡◌, ◌≢◌, ℕ, List, true, IfOk, IfErr, OnOk, OnErr, Some, None, MatchOption};
+ghost use Rattle.std.specs.Prelude.{◌≡◌, ◌≢◌, ℕ, List, true, IfOk, IfErr, OnOk, OnErr, IsErrOf, Some, None, MatchOption};
 ghost use Rattle.recolour_bench.specs.History.{IsHistory};
 ghost use Rattle.recolour_bench.specs.Steps as steps;
 ghost use Rattle.cohere_core.specs.Acts.{is_built};
-ghost use Rattle.cohere_core.specs.Answer.{Answers, IsAccepted, IsHalfway, Moves, edit_word, move_of};
+ghost use Rattle.cohere_core.specs.Answer.{Answers, IsAccepted, IsHalfway, MoveTakesMemory, Moves, TakesMemory, edit_word, move_of};
 ghost use Rattle.cohere_core.specs.Move.{asked_move};
 
-use crate::queries::told;
+use crate::queries::query_answer;
 use pair_colours::NoMemory;
 use recolour_bench::{Bench, Edit, EditFault};
 use report_text::{edit_text, refused_text};
@@ -67,6 +67,7 @@ fn carry_out(bench: &mut Bench, step: Move) -> Result<(), EditFault>
     ensures accepted { OnOk result (steps.Accepts bench.old (asked_move step) bench.new) }
     ensures refused { IfErr result (λ fault. fault ≢ EditFault.NoMemory → steps.refusal bench.old (asked_move step) ≡ Some fault) }
     ensures unchanged { OnErr result (bench.new ≡ bench.old) }
+    ensures memory { IsErrOf result EditFault.NoMemory → MoveTakesMemory (asked_move step) }
     ensures within { IsHistory bench.new }
 {
     match step {
@@ -77,9 +78,9 @@ fn carry_out(bench: &mut Bench, step: Move) -> Result<(), EditFault>
 }
 
 // Carries out an edit, an undo or a redo, and answers it.
-fn moved(alloc: Global, bench: &mut Bench, step: Move) -> Result<Vec<u8>, NoMemory>
+fn move_answer(alloc: Global, bench: &mut Bench, step: Move) -> Result<Vec<u8>, NoMemory>
     ensures answered { IfOk result (λ text. Moves bench.old (asked_move step) bench.new text.items) }
-    ensures halfway { OnErr result (IsHalfway bench.old bench.new (Moves bench.old (asked_move step) bench.new)) }
+    ensures halfway { OnErr result (IsHalfway (MoveTakesMemory (asked_move step)) bench.old bench.new (Moves bench.old (asked_move step) bench.new)) }
     ensures within { IsHistory bench.new }
 {
     match carry_out(bench, step) {
@@ -90,16 +91,16 @@ fn moved(alloc: Global, bench: &mut Bench, step: Move) -> Result<Vec<u8>, NoMemo
 }
 
 /// Carries out the act and makes its answer. Where memory is wanting, the bench stands before the
-/// act or after it.
-pub fn answer(alloc: Global, bench: &mut Bench, act: &Act) -> Result<Vec<u8>, NoMemory>
+/// act or after it; after it where the act is an undo or a redo, which takes none.
+pub(crate) fn answer(alloc: Global, bench: &mut Bench, act: &Act) -> Result<Vec<u8>, NoMemory>
     requires built { is_built act.now ≡ true }
     requires history { IsHistory bench.old }
     ensures answered { IfOk result (λ text. Answers bench.old act.now bench.new text.items) }
-    ensures halfway { OnErr result (IsHalfway bench.old bench.new (Answers bench.old act.now bench.new)) }
+    ensures halfway { OnErr result (IsHalfway (TakesMemory act.now) bench.old bench.new (Answers bench.old act.now bench.new)) }
     ensures within { IsHistory bench.new }
 {
     match asked_for(act) {
-        Some(step) => moved(alloc, bench, step),
-        None => told(alloc, bench, act),
+        Some(step) => move_answer(alloc, bench, step),
+        None => query_answer(alloc, bench, act),
     }
 }

@@ -64,7 +64,7 @@ fn listed_tests(alloc: Global, bench: &Bench) -> Result<Vec<u8>, NoMemory>
 }
 
 // The intersection array of the graph of a set of classes, or why it has none.
-fn judged_array(alloc: Global, closure: &Colouring, set: &[u32]) -> Result<Vec<u8>, NoMemory>
+fn graph_answer(alloc: Global, closure: &Colouring, set: &[u32]) -> Result<Vec<u8>, NoMemory>
     ensures { IfOk result (λ text. AnswersArray closure.now set.now text.items) }
 {
     match array(alloc, closure, set) {
@@ -75,10 +75,10 @@ fn judged_array(alloc: Global, closure: &Colouring, set: &[u32]) -> Result<Vec<u
 }
 
 // The intersection array over the closure.
-fn told_array(alloc: Global, bench: &Bench, set: &[u32]) -> Result<Vec<u8>, NoMemory>
+fn array_answer(alloc: Global, bench: &Bench, set: &[u32]) -> Result<Vec<u8>, NoMemory>
     ensures { IfOk result (λ text. OfConfiguration bench.now (λ K. AnswersArray K set.now text.items)) }
 {
-    judged_array(alloc, bench.closure(), set)
+    graph_answer(alloc, bench.closure(), set)
 }
 
 // The graph6 text of a set of classes.
@@ -114,7 +114,7 @@ fn written(alloc: Global, bench: &Bench, form: GraphForm, set: &[u32]) -> Result
 }
 
 /// Answers a query.
-pub fn told(alloc: Global, bench: &Bench, act: &Act) -> Result<Vec<u8>, NoMemory>
+pub(crate) fn query_answer(alloc: Global, bench: &Bench, act: &Act) -> Result<Vec<u8>, NoMemory>
     requires built { is_built act.now ≡ true }
     requires query { move_of act.now ≡ None }
     ensures { IfOk result (λ text. Tells bench.now act.now text.items) }
@@ -125,7 +125,7 @@ pub fn told(alloc: Global, bench: &Bench, act: &Act) -> Result<Vec<u8>, NoMemory
         Act::Classes => listed_classes(alloc, bench),
         Act::Constants => listed_constants(alloc, bench),
         Act::Tests => listed_tests(alloc, bench),
-        Act::Array { set } => told_array(alloc, bench, set.as_slice()),
+        Act::Array { set } => array_answer(alloc, bench, set.as_slice()),
         Act::Write { form, set } => written(alloc, bench, *form, set.as_slice()),
         _ => unreachable!(),
     }

@@ -2,7 +2,7 @@ use Rattle.std.proofs.Common.{arith, subst}
 use Rattle.std.specs.Io.KnownBytes.{Appends}
 use Rattle.scheme_io.specs.Bytes.{AppendsPart}
 use Rattle.script_text.specs.declared.acts.Line.{Line}
-use Rattle.cohere_core.specs.Answer.{Answers, IsHalfway}
+use Rattle.cohere_core.specs.Answer.{Answers, IsHalfway, TakesMemory}
 use Rattle.cohere_core.proofs.Runs.{one_more, cut_short, unanswered}
 use Rattle.cohere_core.proofs.answering.session.Goals as goal
 
@@ -10,7 +10,7 @@ pub returns-in-Err-clause-stopped : goal.returns-in-Err-clause-stopped
 returns-in-Err-clause-stopped g c =
     let old = c.loop-line.bench in
     let new = c.answer.new.bench in
-    let halfway = subst (λ (line : Line). IsHalfway old new (Answers old line.act new)) c.line-item.is c.in-Err.ensures.halfway in
+    let halfway = subst (λ (line : Line). IsHalfway (TakesMemory line.act) old new (Answers old line.act new)) c.line-item.is c.in-Err.ensures.halfway in
     unanswered c.args.lines.now c.loop-line.line-index c.line-item.result _ _ _ _ _ c.loop-line-test.true c.loop-line.invariant.history c.requires c.loop-line.invariant.answered halfway
 
 pub returns-in-Err-put_all-clause-stopped : goal.returns-in-Err-put_all-clause-stopped

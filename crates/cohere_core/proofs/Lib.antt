@@ -2,6 +2,7 @@ pub mod Pieces
 pub mod Files
 pub mod EdgeSets
 pub mod Runs
+pub mod OneOutput
 pub mod ReadRelations
 pub mod Outputs
 pub mod Halting

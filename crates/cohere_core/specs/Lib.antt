@@ -10,4 +10,5 @@ pub mod Answer
 pub mod Move
 pub mod Output
 pub mod Run
+pub mod Law
 pub mod Halt

@@ -6,6 +6,7 @@
 //!   `queries`: one that changes nothing.
 //! * `running`: `run`, with the headline and the causes of its statuses (`status`).
 //! * `saying`: the lines on standard error.
+//! * `laws`: every script over every relation has exactly one output.
 //!
 //! The definitions stand in `specs/`: `Run` says what holds after each status, `Output` and
 //! `Answer` what is written, `Lines` what is said, and `Bad` which files are bad.
@@ -15,6 +16,7 @@ mod answering;
 mod answers;
 mod bad_files;
 mod inputs;
+pub mod laws;
 mod queries;
 mod running;
 mod saying;

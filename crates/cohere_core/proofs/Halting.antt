@@ -55,13 +55,13 @@ pub halted_line : (files : Option Files) (task : Task) (role : FileRole) (why : 
     → says (halt_line (name_in task role) why) → ErrorLineAfter (halt_status why) task files rose says
 halted_line None task role (Bad Missing) rose says h said = absurd (not_none (h.cause.1 refl))
 halted_line (Some files) task role (Bad Missing) rose says h said = record { role = role; line = said; unread = (h.reached, inr (missing_at files task role h.cause.0)) }
-halted_line files task role (Bad TooLong) rose says h said = record { role = role; fault = TooLong; text = λ e. cc; line = said; first = first_at files task role TooLong rose h }
+halted_line files task role (Bad TooLong) rose says h said = record { role = role; fault = TooLong; text = λ e. cc; form = h.form; line = said; first = first_at files task role TooLong rose h }
 halted_line files task role (Bad (Relation what at)) rose says h said =
-    record { role = role; fault = Relation what at; text = λ e. cc; line = said; first = first_at files task role (Relation what at) rose h }
+    record { role = role; fault = Relation what at; text = λ e. cc; form = h.form; line = said; first = first_at files task role (Relation what at) rose h }
 halted_line files task role (Bad (Script at what)) rose says h said =
-    record { role = role; fault = Script at what; text = λ e. cc; line = said; first = first_at files task role (Script at what) rose h }
+    record { role = role; fault = Script at what; text = λ e. cc; form = h.form; line = said; first = first_at files task role (Script at what) rose h }
 halted_line files task role (Bad (NotYet at)) rose says h said =
-    record { role = role; fault = NotYet at; text = λ e. cc; line = said; first = first_at files task role (NotYet at) rose h }
+    record { role = role; fault = NotYet at; text = λ e. cc; form = h.form; line = said; first = first_at files task role (NotYet at) rose h }
 halted_line None task role StoreFailed rose says h said = record { role = role; line = said; unread = h.cause }
 halted_line (Some files) task role StoreFailed rose says h said = record { role = role; line = said; unread = (h.reached, inl h.cause) }
 halted_line files task role NoMemory rose says h said = tt

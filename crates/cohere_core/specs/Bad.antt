@@ -67,6 +67,15 @@ IsScriptFault files name (Script at what) = (bytes : List ℕ) × HoldsWithin fi
 IsScriptFault files name (NotYet at) = (lines : List Line) × IsScriptFile files name lines × (first_unbuilt lines ≡ Some at)
 IsScriptFault files name _ = ⊥
 
+-- a file of this role can be bad for such a reason
+abbrev pub IsOfRole : FileRole → FileFault → Type 0
+IsOfRole role Missing = ⊤
+IsOfRole role TooLong = ⊤
+IsOfRole roles.Relation (Relation what at) = ⊤
+IsOfRole roles.Script (Script line what) = ⊤
+IsOfRole roles.Script (NotYet line) = ⊤
+IsOfRole _ _ = ⊥
+
 -- a file of the task is bad for this reason
 abbrev pub IsFault : Files → Task → FileRole → FileFault → Type 0
 IsFault files (Run relation script line) roles.Relation fault = IsRelationFault files relation line fault

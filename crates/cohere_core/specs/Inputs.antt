@@ -14,7 +14,7 @@ use Rattle.cohere_core.specs.declared.inputs.Unread.TheVariants.{Bad, StoreFaile
 use Rattle.pair_colours.specs.Colouring.{PairColouring}
 use Rattle.script_text.specs.declared.acts.Line.{Line}
 use Rattle.cohere_core.specs.Task.{Task, Run}
-use Rattle.cohere_core.specs.Bad.{IsRelationFile, IsBuiltScript, IsReached, IsFault}
+use Rattle.cohere_core.specs.Bad.{IsRelationFile, IsBuiltScript, IsOfRole, IsReached, IsFault}
 
 -- what a fault of loading says of the file
 abbrev pub unread_of : LoadFault → Unread
@@ -34,10 +34,17 @@ IsCause files faults (Bad fault) rose = IfSome files (λ files. faults files fau
 IsCause files faults StoreFailed rose = rose
 IsCause files faults NoMemory rose = ⊤
 
+-- a file of this role can be left unread for such a reason
+abbrev pub IsUnreadAt : FileRole → Unread → Type 0
+IsUnreadAt role (Bad fault) = IsOfRole role fault
+IsUnreadAt role StoreFailed = ⊤
+IsUnreadAt role NoMemory = ⊤
+
 -- why a run stops at this file of the task
 pub record Halts (files : Option Files) (task : Task) (role : FileRole) (why : Unread) (rose : Type 0) : Type 0 where
   pub reached : IfSome files (λ files. IsReached files task role)
   pub cause : IsCause files (λ files. IsFault files task role) why rose
+  pub form : IsUnreadAt role why
 
 -- the files of the task are this relation and a script of these lines
 abbrev pub AreInputs : Files → Task → PairColouring → List Line → Type 0

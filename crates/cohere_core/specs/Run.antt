@@ -10,7 +10,7 @@ use Rattle.cohere_core.specs.declared.status.Status.{Status}
 use Rattle.cohere_core.specs.declared.status.Status.TheVariants.{Done, CheckedNo, Usage, BadInput, StoreFailed, SinkFailed, NoMemory}
 use Rattle.cohere_core.specs.Task.{Task}
 use Rattle.cohere_core.specs.Lines.{usage_line, memory_line, unread_line, fault_line}
-use Rattle.cohere_core.specs.Bad.{name_in, IsReached, IsFirstBad, NoneIsBad}
+use Rattle.cohere_core.specs.Bad.{name_in, IsOfRole, IsReached, IsFirstBad, NoneIsBad}
 use Rattle.cohere_core.specs.Output.{FileOutput}
 
 -- ---- the output
@@ -54,11 +54,12 @@ IsQuiet CheckedNo = ⊤
 IsQuiet SinkFailed = ⊤
 IsQuiet _ = ⊥
 
--- the line names this file and why it is bad; where the store tells its files, it is the first bad one
+-- the line names this file and why it is bad, a reason of its role; where the store tells its files, it is the first bad one
 pub record SaysBad (files : Option Files) (task : Task) (says : List ℕ → Type 0) : Type 0 where
   pub role : FileRole
   pub fault : FileFault
   pub text : fault ≢ Missing
+  pub form : IsOfRole role fault
   pub line : says (fault_line (name_in task role) fault)
   pub first : IfSome files (λ files. IsFirstBad files task role fault)
 

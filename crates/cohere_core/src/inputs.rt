@@ -5,7 +5,7 @@ ghost use Rattle.recolour_bench.specs.History.{IsRawColouring};
 ghost use Rattle.cohere_core.specs.Acts.{is_built, AreBuilt, first_unbuilt};
 ghost use Rattle.cohere_core.specs.Bad.{IsRelationFile, IsRelationFault, IsBuiltScript, IsScriptFault, name_in};
 ghost use Rattle.cohere_core.specs.Form.{asked};
-ghost use Rattle.cohere_core.specs.Inputs.{IsCause, Halts, AreInputs, unread_by};
+ghost use Rattle.cohere_core.specs.Inputs.{IsCause, IsUnreadAt, Halts, AreInputs, unread_by};
 ghost use Rattle.cohere_core.specs.Task.{IsAsked};
 
 use crate::bad_files::{FileFault, FileRole};
@@ -18,7 +18,7 @@ use std::alloc::Global;
 
 /// Why a file was not read.
 #[derive(Clone, Copy, Debug, PartialEq, Eq)]
-pub enum Unread {
+pub(crate) enum Unread {
     /// It is bad.
     Bad(FileFault),
     /// The store failed.
@@ -67,6 +67,7 @@ fn relation_in<S: Store>(
     ensures read { IfOk result (λ C. IfSome (S.files store.old) (λ files. IsRelationFile files name.now line C)) }
     ensures cause { IfErr result (λ why.
         IsCause (S.files store.old) (λ files. IsRelationFault files name.now line) why (Rose (S.faults store.old) (S.faults store.new))) }
+    ensures form { IfErr result (IsUnreadAt FileRole.Relation) }
 {
     let bytes = load(alloc, store, name, MOST_RELATION)?;
     match read_relation(alloc, &bytes, line) {
@@ -116,6 +117,7 @@ fn script_in<S: Store>(alloc: Global, store: &mut S, name: &str) -> Result<Vec<L
     ensures built { IfOk result (λ lines. first_unbuilt lines.items ≡ None) }
     ensures cause { IfErr result (λ why.
         IsCause (S.files store.old) (λ files. IsScriptFault files name.now) why (Rose (S.faults store.old) (S.faults store.new))) }
+    ensures form { IfErr result (IsUnreadAt FileRole.Script) }
 {
     let bytes = load(alloc, store, name, MOST_SCRIPT)?;
     match read_script(alloc, &bytes) {
@@ -132,7 +134,7 @@ fn script_in<S: Store>(alloc: Global, store: &mut S, name: &str) -> Result<Vec<L
 
 /// What a run reads before it writes.
 #[derive(Drop)]
-pub struct Inputs {
+pub(crate) struct Inputs {
     /// The colouring that the history starts from.
     pub relation: Colouring,
     /// The lines to answer, in order.
@@ -141,13 +143,17 @@ pub struct Inputs {
 
 /// Where a run stops before it writes, and why.
 #[derive(Clone, Copy, Debug, PartialEq, Eq)]
-pub struct Halt {
+pub(crate) struct Halt {
     pub role: FileRole,
     pub why: Unread,
 }
 
 /// Reads the files of a run, the relation first.
-pub fn inputs_in<S: Store>(alloc: Global, store: &mut S, form: Form<'_>) -> Result<Inputs, Halt>
+pub(crate) fn inputs_in<S: Store>(
+    alloc: Global,
+    store: &mut S,
+    form: Form<'_>,
+) -> Result<Inputs, Halt>
     requires { IsAsked (asked form) }
     ensures same_files { S.files store.new ≡ S.files store.old }
     ensures later { S.faults store.old ≤ S.faults store.new }
@@ -184,7 +190,7 @@ pub fn inputs_in<S: Store>(alloc: Global, store: &mut S, form: Form<'_>) -> Resu
 }
 
 /// The name of a file of the task.
-pub fn name_of(form: Form<'_>, role: FileRole) -> &str
+pub(crate) fn name_of(form: Form<'_>, role: FileRole) -> &str
     ensures { result.now ≡ name_in (asked form.entry) role }
 {
     let Form::Run {

@@ -21,7 +21,7 @@ fn say<E: Sink>(err: &mut E, pieces: &[&[u8]])
 }
 
 /// Says how the program is called.
-pub fn say_usage<E: Sink>(err: &mut E)
+pub(crate) fn say_usage<E: Sink>(err: &mut E)
     ensures { AddsLine E.written E.faults err.old err.new usage_line }
 {
     say(
@@ -31,14 +31,14 @@ pub fn say_usage<E: Sink>(err: &mut E)
 }
 
 /// Says that there is not enough memory.
-pub fn say_no_memory<E: Sink>(err: &mut E)
+pub(crate) fn say_no_memory<E: Sink>(err: &mut E)
     ensures { AddsLine E.written E.faults err.old err.new memory_line }
 {
     say(err, &[b"cohere: out of memory\n"]);
 }
 
 /// Says that a file could not be read.
-pub fn say_unread<E: Sink>(err: &mut E, name: &str)
+pub(crate) fn say_unread<E: Sink>(err: &mut E, name: &str)
     ensures { AddsLine E.written E.faults err.old err.new (unread_line name.now) }
 {
     say(err, &[b"cohere: cannot read ", name.as_bytes(), b"\n"]);
@@ -86,7 +86,7 @@ fn say_line<E: Sink>(err: &mut E, name: &str, line: u32, word: &[u8])
     say_on_digits(err, name.as_bytes(), buffer.format(line).as_bytes(), word);
 }
 
-// The name of the word.
+// The fault's word, as it is written.
 fn relation_word_text(word: RelationWord) -> &'static [u8]
     ensures { result.now ≡ relation_word word }
 {
@@ -105,7 +105,7 @@ fn relation_word_text(word: RelationWord) -> &'static [u8]
     }
 }
 
-// The name of the word.
+// The fault's word, as it is written.
 fn script_word_text(word: ScriptWord) -> &'static [u8]
     ensures { result.now ≡ script_word word }
 {
@@ -122,7 +122,7 @@ fn script_word_text(word: ScriptWord) -> &'static [u8]
 }
 
 /// Says why a file is bad.
-pub fn say_fault<E: Sink>(err: &mut E, name: &str, fault: FileFault)
+pub(crate) fn say_fault<E: Sink>(err: &mut E, name: &str, fault: FileFault)
     ensures { AddsLine E.written E.faults err.old err.new (fault_line name.now fault) }
 {
     match fault {

@@ -10,7 +10,7 @@ pub const MOST_LINE: u32 = 1_000_000;
 
 /// What the words ask for.
 #[derive(Clone, Copy)]
-pub enum Form<'a> {
+pub(crate) enum Form<'a> {
     /// The script is to be answered over the relation at this line of its file.
     Run {
         relation: &'a str,
@@ -52,7 +52,7 @@ fn run_form(words: &[String]) -> Option<Form<'_>>
 }
 
 /// What the words ask for, where they fit a form.
-pub fn form_of(words: &[String]) -> Option<Form<'_>>
+pub(crate) fn form_of(words: &[String]) -> Option<Form<'_>>
     ensures form { MatchOption result (task_of (texts words.now) ≡ None) (λ form. task_of (texts words.now) ≡ Some (asked form)) }
     ensures line { IfSome result (λ form. IsAsked (asked form)) }
 {

@@ -19,16 +19,22 @@ fn words_of(alloc: Global, words: &[&str]) -> Result<Vec<String>, AllocError> {
     Ok(all)
 }
 
-// What a run over the files R and S answers, writes and says.
+// What a run answers, writes and says.
+#[derive(Clone, Copy)]
+struct Outcome<'a> {
+    status: Status,
+    output: &'a [u8],
+    line: &'a [u8],
+}
+
+// A run over the files R and S ends so.
 fn expect(
     rt: &impl Abort,
     alloc: Global,
     words: &[&str],
     relation: &[u8],
     script: &[u8],
-    status: Status,
-    output: &[u8],
-    line: &[u8],
+    outcome: Outcome<'_>,
 ) -> Result<(), Fail> {
     let mut store = MemoryStore::new(alloc);
     store.add("R", relation)?;
@@ -37,9 +43,9 @@ fn expect(
     let mut err = MemorySink::new(alloc, 5, 1000)?;
     let words = words_of(alloc, words)?;
     let answer = run(alloc, &words, &mut store, &mut out, &mut err);
-    assert_eq!(rt; answer, status);
-    assert_eq!(rt; out.written(), output);
-    assert_eq!(rt; err.written(), line);
+    assert_eq!(rt; answer, outcome.status);
+    assert_eq!(rt; out.written(), outcome.output);
+    assert_eq!(rt; err.written(), outcome.line);
     Ok(())
 }
 
@@ -51,16 +57,12 @@ fn answers(
     script: &[u8],
     output: &[u8],
 ) -> Result<(), Fail> {
-    expect(
-        rt,
-        alloc,
-        &["run", "R", "S"],
-        relation,
-        script,
-        Status::Done,
+    let outcome = Outcome {
+        status: Status::Done,
         output,
-        b"",
-    )
+        line: b"",
+    };
+    expect(rt, alloc, &["run", "R", "S"], relation, script, outcome)
 }
 
 // One of the two texts is bad.
@@ -71,14 +73,10 @@ fn refuses(
     script: &[u8],
     line: &[u8],
 ) -> Result<(), Fail> {
-    expect(
-        rt,
-        alloc,
-        &["run", "R", "S"],
-        relation,
-        script,
-        Status::BadInput,
-        b"",
+    let outcome = Outcome {
+        status: Status::BadInput,
+        output: b"",
         line,
-    )
+    };
+    expect(rt, alloc, &["run", "R", "S"], relation, script, outcome)
 }

@@ -1,5 +1,5 @@
 // Words and texts that are refused.
-use super::{answers, expect, refuses};
+use super::{Outcome, answers, expect, refuses};
 use crate::Status;
 use std::test::Fail;
 
@@ -9,57 +9,22 @@ const USAGE: &[u8] =
 #[test]
 fn words(rt: HostRuntime) -> Result<(), Fail> {
     let alloc = rt.alloc();
-    expect(
-        &rt,
-        alloc,
+    let refused: [&[&str]; 6] = [
         &["run", "R"],
-        b"A_",
-        b"show",
-        Status::Usage,
-        b"",
-        USAGE,
-    )?;
-    expect(
-        &rt,
-        alloc,
         &["run", "-", "-"],
-        b"A_",
-        b"show",
-        Status::Usage,
-        b"",
-        USAGE,
-    )?;
-    expect(
-        &rt,
-        alloc,
         &["run", "R", "S", "01"],
-        b"A_",
-        b"show",
-        Status::Usage,
-        b"",
-        USAGE,
-    )?;
-    expect(
-        &rt,
-        alloc,
         &["run", "R", "S", "0"],
-        b"A_",
-        b"show",
-        Status::Usage,
-        b"",
-        USAGE,
-    )?;
-    expect(
-        &rt,
-        alloc,
         &["run", "R", "S", "1000001"],
-        b"A_",
-        b"show",
-        Status::Usage,
-        b"",
-        USAGE,
-    )?;
-    expect(&rt, alloc, &[], b"A_", b"show", Status::Usage, b"", USAGE)?;
+        &[],
+    ];
+    for words in refused {
+        let outcome = Outcome {
+            status: Status::Usage,
+            output: b"",
+            line: USAGE,
+        };
+        expect(&rt, alloc, words, b"A_", b"show", outcome)?;
+    }
     Ok(())
 }
 

@@ -1,5 +1,5 @@
 // Relations that are read, and their closures.
-use super::{answers, expect};
+use super::{Outcome, answers, expect};
 use crate::Status;
 use std::alloc::Global;
 use std::process::Abort;
@@ -39,26 +39,18 @@ fn closures(rt: HostRuntime) -> Result<(), Fail> {
 fn lines_of_a_file(rt: HostRuntime) -> Result<(), Fail> {
     let alloc = rt.alloc();
     let three = b"DQc\nDhc\nD Q\n";
-    expect(
-        &rt,
-        alloc,
-        &["run", "R", "S", "2"],
-        three,
-        b"show",
-        Status::Done,
-        CYCLE,
-        b"",
-    )?;
-    expect(
-        &rt,
-        alloc,
-        &["run", "R", "S", "4"],
-        three,
-        b"show",
-        Status::BadInput,
-        b"",
-        b"cohere: R: NoLine at 12\n",
-    )?;
+    let second = Outcome {
+        status: Status::Done,
+        output: CYCLE,
+        line: b"",
+    };
+    expect(&rt, alloc, &["run", "R", "S", "2"], three, b"show", second)?;
+    let fourth = Outcome {
+        status: Status::BadInput,
+        output: b"",
+        line: b"cohere: R: NoLine at 12\n",
+    };
+    expect(&rt, alloc, &["run", "R", "S", "4"], three, b"show", fourth)?;
     Ok(())
 }
 

@@ -1,5 +1,6 @@
 ghost use Rattle.std.specs.Prelude.{◌≡◌, ◌*◌, ◌<◌, ◌≤◌, IfOk, length};
 ghost use Rattle.pair_colours.specs.Colouring.{PairColouring};
+ghost use Rattle.pair_colours.specs.declared.coloured_pairs.TheConstants.{MOST_POINTS};
 
 use super::*;
 use pair_colours::{Colouring, NoMemory};
@@ -9,7 +10,7 @@ use std::test::Fail;
 // The colouring whose rows are these, one after the other.
 fn coloured(alloc: Global, size: u32, colours: &[u32]) -> Result<Colouring, NoMemory>
     requires has_points { 1 ≤ size }
-    requires limit { size ≤ 128 }
+    requires limit { size ≤ MOST_POINTS }
     requires pairs { length colours.now ≡ size * size }
     ensures { IfOk result (λ c. c ≡ record { size = size; colours = colours.now }) }
 {

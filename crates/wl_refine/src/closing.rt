@@ -10,7 +10,7 @@ use pair_colours::{Colouring, NoMemory};
 use std::alloc::Global;
 
 // A colouring that splits classes of this one; none where this one is coherent. The hashed round is
-// far the faster, and the exact one decides where it finds nothing.
+// by far the faster, and the exact one decides where it finds nothing.
 fn split(alloc: Global, colouring: &Colouring) -> Result<Option<Colouring>, NoMemory>
     ensures split { IfOk result (λ next. IfSome next (λ next. IsSplit colouring.now next)) }
     ensures coherent { IfOk result (λ next. IfNone next (Coherent colouring.now)) }
@@ -45,6 +45,5 @@ pub fn close_matrix(alloc: Global, raw: &Colouring) -> Result<Colouring, NoMemor
     ensures { IfOk result (λ closed. IsClosureOf closed raw.now) }
 {
     let closure = stable(alloc, raw)?;
-    let named = closure.named(alloc)?;
-    Ok(named)
+    closure.named(alloc)
 }

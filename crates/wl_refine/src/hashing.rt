@@ -14,7 +14,7 @@ use rand_core::{Rng, SeedableRng};
 use rand_xoshiro::SplitMix64;
 use std::alloc::Global;
 
-// So many pseudo-random words.
+// `count` pseudo-random words; one seed always gives the same.
 fn random_words(alloc: Global, count: usize, seed: u64) -> Result<Vec<u32>, NoMemory>
     ensures { IfOk result (λ words. vec_len words ≡ count) }
 {

@@ -65,6 +65,39 @@ fn directed_three_cycle(rt: HostRuntime) -> Result<(), Fail> {
     Ok(())
 }
 
+// Two points, each a fibre of its own: all valencies are 1, and yet it is not thin.
+#[test]
+fn two_fixed_points(rt: HostRuntime) -> Result<(), Fail> {
+    let expected = SchemeTests {
+        homogeneous: false,
+        symmetric: false,
+        commutative: false,
+        thin: false,
+        primitive: false,
+    };
+    assert_eq!(rt; tests_of(rt.alloc(), 2, &[0, 2, 3, 1])?, expected);
+    Ok(())
+}
+
+// The regular scheme of the symmetric group on three letters: the identity, the two turns and the
+// three swaps.
+#[test]
+fn symmetric_group_of_three_letters(rt: HostRuntime) -> Result<(), Fail> {
+    let expected = SchemeTests {
+        homogeneous: true,
+        symmetric: false,
+        commutative: false,
+        thin: true,
+        primitive: false,
+    };
+    let colours = [
+        0, 1, 2, 3, 4, 5, 2, 0, 1, 4, 5, 3, 1, 2, 0, 5, 3, 4, 3, 4, 5, 0, 1, 2, 4, 5, 3, 2, 0, 1,
+        5, 3, 4, 1, 2, 0,
+    ];
+    assert_eq!(rt; tests_of(rt.alloc(), 6, &colours)?, expected);
+    Ok(())
+}
+
 // The closure of the graph with the edges 0-1 and 1-2.
 #[test]
 fn path_of_three_points(rt: HostRuntime) -> Result<(), Fail> {

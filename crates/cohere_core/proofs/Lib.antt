@@ -1,6 +1,5 @@
 pub mod Pieces
 pub mod Files
-pub mod EdgeSets
 pub mod Runs
 pub mod OneOutput
 pub mod ReadRelations

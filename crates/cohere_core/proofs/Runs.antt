@@ -24,9 +24,10 @@ use Rattle.scheme_tests.specs.declared.properties.SchemeTests.{SchemeTests}
 use Rattle.scheme_tests.specs.Law.{AreAnswers}
 use Rattle.scheme_tests.proofs.SomeAnswers.{answers_exist}
 use Rattle.pair_colours.specs.Closure.{IsClosureOf}
+use Rattle.pair_colours.proofs.ColourSets.{colour_set_or_not, edge_set_or_not}
 use Rattle.drg_arrays.specs.declared.answer.ArrayAnswer.{ArrayAnswer}
 use Rattle.drg_arrays.specs.declared.answer.ArrayAnswer.TheVariants as arrays
-use Rattle.drg_arrays.proofs.SomeAnswer.{answer_exists, colours_or_not}
+use Rattle.drg_arrays.proofs.SomeAnswer.{answer_exists}
 use Rattle.script_text.specs.declared.acts.Act.{Act}
 use Rattle.script_text.specs.declared.acts.Act.TheVariants.{Set, Both, Fix, Join, Adopt, Undo, Redo, Show, Raw, Classes, Constants, Tests, Array, Write}
 use Rattle.script_text.specs.declared.acts.Line.{Line}
@@ -35,7 +36,6 @@ use Rattle.relation_text.specs.Written.{graph6_of, digraph6_of}
 use Rattle.report_text.specs.Graphs.{graph_line}
 use Rattle.report_text.specs.declared.graphs.GraphNote.{GraphNote}
 use Rattle.report_text.specs.declared.graphs.GraphNote.TheVariants as notes
-use Rattle.cohere_core.proofs.EdgeSets.{edge_set_or_not}
 use Rattle.cohere_core.specs.declared.answering.SessionFault.{SessionFault}
 use Rattle.cohere_core.specs.declared.answering.SessionFault.TheVariants.{SinkFailed, NoMemory}
 use Rattle.cohere_core.specs.Acts.{is_built, AreBuilt, first_unbuilt}
@@ -87,7 +87,7 @@ has_query h (Write Digraph6 set) i b m =
     has_configuration h i (λ K t. WritesGraph K Digraph6 set t) (λ K _ fits. ⊎_elim
     (λ good. (graph_line notes.Digraph6 (digraph6_of K set), inr (good, refl)))
     (λ bad. (refused_text_of (codes "BadSet"), inl (bad, refl)))
-    (colours_or_not K fits.colouring set))
+    (colour_set_or_not K fits.colouring set))
 has_query h (Set x y colour) i b m = absurd cc
 has_query h (Both x y colour) i b m = absurd cc
 has_query h (Fix x) i b m = absurd cc

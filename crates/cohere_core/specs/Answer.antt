@@ -25,7 +25,8 @@ use Rattle.script_text.specs.declared.acts.Act.TheVariants.{Set, Both, Fix, Join
 use Rattle.script_text.specs.declared.acts.Line.{Line}
 use Rattle.script_text.specs.declared.acts.GraphForm.{GraphForm}
 use Rattle.script_text.specs.declared.acts.GraphForm.TheVariants.{Graph6, Digraph6}
-use Rattle.relation_text.specs.Written.{IsColourSet, IsEdgeSet, graph6_of, digraph6_of}
+use Rattle.pair_colours.specs.ColourSets.{IsColourSet, IsEdgeSet}
+use Rattle.relation_text.specs.Written.{graph6_of, digraph6_of}
 use Rattle.report_text.specs.Graphs.{graph_line}
 use Rattle.report_text.specs.declared.graphs.GraphNote.TheVariants as notes
 use Rattle.cohere_core.specs.declared.answering.SessionFault.{SessionFault}

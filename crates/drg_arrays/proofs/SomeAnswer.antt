@@ -1,14 +1,12 @@
 -- Whether a set of colours is that of a graph is decided, and each graph has an answer.
-use Rattle.std.proofs.Common.{◌≡◌, ◌==◌, ℕ, ◌/◌, ◌%◌, ◌<◌, ◌≤◌, Bool, false, List, length, get_or, map, take, drop, All, ◌⊎◌, inl, inr, refl, ap, ◌∙◌, arith, ⊎_elim}
-use Rattle.std.specs.List.{list_any}
-use Rattle.std.proofs.lemmas.Bool.{cases_eq, cases_Bool, eq-eqb, eqb-true, both_ways}
+use Rattle.std.proofs.Common.{◌≡◌, ◌==◌, ℕ, ◌/◌, ◌%◌, ◌<◌, ◌≤◌, Bool, false, List, length, get_or, map, take, drop, ◌⊎◌, inl, inr, refl, ap, ◌∙◌, arith, ⊎_elim}
+use Rattle.std.proofs.lemmas.Bool.{cases_eq, eq-eqb, eqb-true, both_ways}
 use Rattle.std.proofs.lemmas.List.{length-map, nil_from_length}
-use Rattle.std.proofs.lemmas.List.Elements.{All-from_get_or}
 use Rattle.std.proofs.lemmas.List.FromFn.{length-map-range_with_len}
-use Rattle.pair_colours.specs.Colouring.{PairColouring, IsColouring, FitsColouring, IsColour}
+use Rattle.pair_colours.specs.Colouring.{PairColouring, IsColouring, FitsColouring}
 use Rattle.pair_colours.proofs.Places.{place_below}
 use Rattle.pair_colours.proofs.ColourSets.{edge_set_or_not}
-use Rattle.pair_colours.proofs.Reaching.{IsFirstBelow, first_below, all_below}
+use Rattle.pair_colours.proofs.Reaching.{IsFirstBelow, first_below}
 use Rattle.drg_arrays.specs.declared.levels.TheConstants.{UNREACHED}
 use Rattle.drg_arrays.specs.declared.answer.ArrayAnswer.{ArrayAnswer}
 use Rattle.drg_arrays.specs.declared.answer.ArrayAnswer.TheVariants.{Array, Disconnected, Irregular}

@@ -13,7 +13,6 @@ pub mod RowLoops
 pub mod ColourDigits
 pub mod ChosenLines
 pub mod MatrixLoops
-pub mod EdgeSets
 pub mod BitWrites
 pub mod PairWrites
 pub mod RowWrites

@@ -4,9 +4,10 @@ use Rattle.std.specs.List.{flat_map}
 use Rattle.std.proofs.lemmas.Grind.{flat_map-append}
 use Rattle.std.proofs.lemmas.List.{append-nil, map-append}
 use Rattle.pair_colours.specs.Colouring.{PairColouring, colour_at, points}
+use Rattle.pair_colours.specs.ColourSets.{is_in}
 use Rattle.pair_colours.proofs.Counts.{points_more}
 use Rattle.relation_text.specs.Orders.{column_pairs}
-use Rattle.relation_text.specs.Written.{is_in, pair_bits}
+use Rattle.relation_text.specs.Written.{pair_bits}
 
 -- the bits of the pairs that come first, and then of the pairs f 0 to f (k - 1)
 abbrev pub bits_to : PairColouring → List ℕ → List (ℕ × ℕ) → (ℕ → ℕ × ℕ) → ℕ → List Bool

@@ -7,6 +7,7 @@ use Rattle.std.proofs.lemmas.List.{get_or-map, length-map}
 use Rattle.std.proofs.lemmas.List.Elements.{All-cons, All-weaker}
 use Rattle.text_lines.proofs.OneLine.{lines_of-one}
 use Rattle.pair_colours.specs.Colouring.{PairColouring, colour_at}
+use Rattle.pair_colours.specs.ColourSets.{is_in, IsEdgeSet}
 use Rattle.pair_colours.specs.declared.coloured_pairs.TheConstants.{MOST_POINTS}
 use Rattle.relation_text.specs.declared.graph_format.GraphFormat.{GraphFormat}
 use Rattle.relation_text.specs.declared.graph_format.GraphFormat.TheVariants.{Graph, Digraph}
@@ -15,7 +16,7 @@ use Rattle.relation_text.specs.Orders.{column_pairs, row_pairs, pair_at, pairs_o
 use Rattle.relation_text.specs.Lines.{header_len, first_line_after, lines_at}
 use Rattle.relation_text.specs.Relation.{IsRelationText, graph, digraph, IsBitText, pair_colour, bit_at}
 use Rattle.relation_text.specs.Faults.{is_graph_byte}
-use Rattle.relation_text.specs.Written.{is_in, pair_bits, graph6_of, digraph6_of, IsEdgeSet}
+use Rattle.relation_text.specs.Written.{pair_bits, graph6_of, digraph6_of}
 use Rattle.relation_text.specs.Law.{IsGraphOf}
 use Rattle.relation_text.proofs.SizeLemmas.{from_graph_byte}
 use Rattle.relation_text.proofs.GraphBodies.{IsSize, body-from_IsBitText}

@@ -1,9 +1,10 @@
 -- Each text has, at each line, one reading or one fault; and what is written is read back.
 use Rattle.std.specs.Prelude.{◌≡◌, ℕ, ◌<◌, ◌≤◌, List, MatchOption}
 use Rattle.pair_colours.specs.Colouring.{PairColouring, IsColouring, colour_at}
+use Rattle.pair_colours.specs.ColourSets.{is_in, IsEdgeSet}
 use Rattle.pair_colours.specs.declared.coloured_pairs.TheConstants.{MOST_POINTS}
 use Rattle.relation_text.specs.Relation.{IsRelationText, pair_colour}
-use Rattle.relation_text.specs.Written.{is_in, graph6_of, digraph6_of, IsEdgeSet}
+use Rattle.relation_text.specs.Written.{graph6_of, digraph6_of}
 use Rattle.relation_text.specs.Faults.{relation_fault}
 
 -- where there is no fault there is a reading, and where there is a fault there is none

@@ -1,14 +1,11 @@
 -- The texts of relations that are written.
-use Rattle.std.specs.Prelude.{◌≡◌, ◌==◌, ℕ, ◌<◌, Bool, true, false, List, ◌++◌, map, All, codes, decimal}
-use Rattle.std.specs.List.{list_any, flat_map}
+use Rattle.std.specs.Prelude.{ℕ, Bool, List, ◌++◌, map, codes, decimal}
+use Rattle.std.specs.List.{flat_map}
 use Rattle.text_lines.specs.Joined.{spaced}
-use Rattle.pair_colours.specs.Colouring.{PairColouring, IsColour, colour_at, points}
+use Rattle.pair_colours.specs.Colouring.{PairColouring, colour_at, points}
+use Rattle.pair_colours.specs.ColourSets.{is_in}
 use Rattle.relation_text.specs.Bits.{size_bytes, bit_bytes}
 use Rattle.relation_text.specs.Orders.{column_pairs, row_pairs}
-
--- the colour is in the set; order and repeats do not matter
-abbrev pub is_in : List ℕ → ℕ → Bool
-is_in set colour = list_any (λ member. member == colour) set
 
 -- for each pair of a list, whether its colour is in the set
 abbrev pub pair_bits : PairColouring → List ℕ → List (ℕ × ℕ) → List Bool
@@ -21,16 +18,6 @@ graph6_of C set = size_bytes C.size ++ bit_bytes (pair_bits C set (column_pairs 
 -- the digraph whose arcs are the pairs with a colour in the set
 abbrev pub digraph6_of : PairColouring → List ℕ → List ℕ
 digraph6_of C set = codes "&" ++ size_bytes C.size ++ bit_bytes (pair_bits C set (row_pairs C.size))
-
--- each number of the set is the colour of a pair
-abbrev pub IsColourSet : PairColouring → List ℕ → Type 0
-IsColourSet C set = All (λ colour. IsColour C colour) set
-
--- the pairs with a colour in the set are the edges of a graph
-pub record IsEdgeSet (C : PairColouring) (set : List ℕ) : Type 0 where
-  pub colours : IsColourSet C set
-  pub loopless : (x : ℕ) → x < C.size → is_in set (colour_at C x x) ≡ false
-  pub symmetric : (x y : ℕ) → x < C.size → y < C.size → is_in set (colour_at C x y) ≡ true → is_in set (colour_at C y x) ≡ true
 
 -- the colours of row x, with single spaces
 abbrev pub matrix_row : PairColouring → ℕ → List ℕ

@@ -8,7 +8,6 @@
 //! * `graphs`: graph lines as a whole.
 //! * `matrices`, `matrix_rows`: matrices, and their rows.
 //! * `reading`: relations as a whole.
-//! * `edge_sets`: sets of colours as the edges of graphs.
 //! * `encoding`: sizes and bits as printable bytes.
 //! * `writers`: the texts that are written.
 //! * `laws`: what holds of the definitions alone.
@@ -17,7 +16,6 @@
 #![tactic(auto)]
 
 mod choosing;
-mod edge_sets;
 mod encoding;
 mod faults;
 mod graph_bits;

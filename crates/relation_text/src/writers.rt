@@ -1,13 +1,13 @@
 // The writers of relations.
 
 ghost use Rattle.std.specs.Prelude.{◌≡◌, ◌<◌, ◌++◌, IfOk, OnOk, IsErrOf};
+ghost use Rattle.pair_colours.specs.ColourSets.{IsColourSet, IsEdgeSet};
 ghost use Rattle.relation_text.specs.Orders.{column_pairs, row_pairs};
-ghost use Rattle.relation_text.specs.Written.{IsColourSet, IsEdgeSet, digraph6_of, graph6_of, matrix_of, matrix_row, matrix_rows, pair_bits};
+ghost use Rattle.relation_text.specs.Written.{digraph6_of, graph6_of, matrix_of, matrix_row, matrix_rows, pair_bits};
 
-use crate::edge_sets::{has_pair, is_colour_set, is_edge_set};
 use crate::encoding::{push_bits, push_size};
 use crate::faults::WriteFault;
-use pair_colours::{Colouring, NoMemory};
+use pair_colours::{ColourSet, Colouring, NoMemory, is_colour_set, is_edge_set};
 use std::alloc::{AllocError, Global};
 use text_lines::Text;
 
@@ -21,7 +21,7 @@ pub fn write_graph6(alloc: Global, relation: &Colouring, set: &[u32]) -> Result<
     ensures good { OnOk result (IsEdgeSet relation.now set.now) }
     ensures bad { IsErrOf result WriteFault.BadSet → ¬ IsEdgeSet relation.now set.now }
 {
-    if !is_edge_set(relation, set) {
+    if !is_edge_set(alloc, relation, set)? {
         return Err(WriteFault::BadSet);
     }
     let bits = column_bits(alloc, relation, set)?;
@@ -44,7 +44,7 @@ pub fn write_digraph6(
     ensures good { OnOk result (IsColourSet relation.now set.now) }
     ensures bad { IsErrOf result WriteFault.BadSet → ¬ IsColourSet relation.now set.now }
 {
-    if !is_colour_set(relation, set) {
+    if !is_colour_set(alloc, relation, set)? {
         return Err(WriteFault::BadSet);
     }
     let bits = row_bits(alloc, relation, set)?;
@@ -58,10 +58,11 @@ pub fn write_digraph6(
 fn column_bits(alloc: Global, relation: &Colouring, set: &[u32]) -> Result<Vec<bool>, NoMemory>
     ensures { IfOk result (λ bits. bits.items ≡ pair_bits relation.now set.now (column_pairs relation.now.size)) }
 {
+    let members = ColourSet::of(alloc, set)?;
     let mut bits = Vec::new(alloc);
     for j in 0..relation.size() {
         for i in 0..j {
-            bits.push(has_pair(relation, set, i, j))?;
+            bits.push(members.has_pair(relation, i, j))?;
         }
     }
     Ok(bits)
@@ -71,10 +72,11 @@ fn column_bits(alloc: Global, relation: &Colouring, set: &[u32]) -> Result<Vec<b
 fn row_bits(alloc: Global, relation: &Colouring, set: &[u32]) -> Result<Vec<bool>, NoMemory>
     ensures { IfOk result (λ bits. bits.items ≡ pair_bits relation.now set.now (row_pairs relation.now.size)) }
 {
+    let members = ColourSet::of(alloc, set)?;
     let mut bits = Vec::new(alloc);
     for i in 0..relation.size() {
         for j in 0..relation.size() {
-            bits.push(has_pair(relation, set, i, j))?;
+            bits.push(members.has_pair(relation, i, j))?;
         }
     }
     Ok(bits)

@@ -1,10 +1,11 @@
 use Rattle.std.proofs.Common.{◌≡◌, ap, ◌∙◌, arith}
+use Rattle.pair_colours.specs.Colouring.{colour_at}
 use Rattle.relation_text.proofs.PairWrites.{bits_to, bits_to-push, row_pair, rows_to, row-next}
 use Rattle.relation_text.proofs.writers.row_bits.Goals as goal
 
 pub loop-j-preserved : goal.loop-j-preserved
 loop-j-preserved c = bits_to-push c.args.relation.now c.args.set.now (rows_to c.args.relation.now.size c.loop-i.i) (row_pair c.loop-i.i) c.loop-j.j c.has_pair.result c.loop-j.bits.items c.push.new.self.items
-    c.loop-j.invariant c.has_pair.ensures c.in_ok-push.ensures.items
+    c.loop-j.invariant (c.has_pair.ensures ∙ (λ k. c.in_ok-members.ensures k (colour_at c.args.relation.now c.loop-i.i c.loop-j.j))) c.in_ok-push.ensures.items
 
 pub loop-i-preserved : goal.loop-i-preserved
 loop-i-preserved c =

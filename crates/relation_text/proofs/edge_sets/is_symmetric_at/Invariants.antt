@@ -1,7 +1,0 @@
-use Rattle.std.proofs.Common.{◌≡◌, ℕ, ◌<◌, true}
-use Rattle.pair_colours.specs.Colouring.{colour_at}
-use Rattle.relation_text.specs.Written.{is_in}
-use Rattle.relation_text.proofs.edge_sets.is_symmetric_at.Given as goal
-
-abbrev pub invariant-loop-y : goal.invariant-loop-y
-invariant-loop-y l = (v : ℕ) → v < l.y → is_in l.set (colour_at l.relation l.x v) ≡ true → is_in l.set (colour_at l.relation v l.x) ≡ true

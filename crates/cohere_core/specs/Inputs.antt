@@ -6,8 +6,10 @@ use Rattle.scheme_io.specs.declared.loading.LoadFault.TheVariants as loads
 use Rattle.relation_text.specs.declared.faults.RelationFault.{RelationFault}
 use Rattle.relation_text.specs.declared.faults.RelationFault.TheVariants.{Text}
 use Rattle.relation_text.specs.declared.faults.RelationFault.TheVariants as readings
+use Rattle.script_text.specs.declared.faults.ScriptFault.{ScriptFault}
+use Rattle.script_text.specs.declared.faults.ScriptFault.TheVariants as scripts
 use Rattle.cohere_core.specs.declared.bad_files.FileFault.{FileFault}
-use Rattle.cohere_core.specs.declared.bad_files.FileFault.TheVariants.{Missing, TooLong, Relation}
+use Rattle.cohere_core.specs.declared.bad_files.FileFault.TheVariants.{Missing, TooLong, Relation, Script}
 use Rattle.cohere_core.specs.declared.bad_files.FileRole.{FileRole}
 use Rattle.cohere_core.specs.declared.inputs.Unread.{Unread}
 use Rattle.cohere_core.specs.declared.inputs.Unread.TheVariants.{Bad, StoreFailed, NoMemory}
@@ -27,6 +29,11 @@ unread_of loads.NoMemory = NoMemory
 abbrev pub unread_by : RelationFault → Unread
 unread_by (Text what at) = Bad (Relation what at)
 unread_by readings.NoMemory = NoMemory
+
+-- what a fault of reading says of a script
+abbrev pub unread_script : ScriptFault → Unread
+unread_script (scripts.Text line what) = Bad (Script line what)
+unread_script scripts.NoMemory = NoMemory
 
 -- why a file was not read: it is bad for a reason of these, or the count of faults rose, or memory is wanting
 abbrev pub IsCause : Option Files → (Files → FileFault → Type 0) → Unread → Type 0 → Type 0

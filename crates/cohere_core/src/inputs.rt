@@ -43,6 +43,20 @@ impl From<LoadFault> for Unread {
     }
 }
 
+impl From<ScriptFault> for Unread {
+    ghost use Rattle.std.specs.Prelude.{◌≡◌};
+    ghost use Rattle.cohere_core.specs.Inputs.{unread_script};
+
+    ghost from_gives = { λ fault why. why ≡ unread_script fault };
+
+    fn from(fault: ScriptFault) -> Unread {
+        match fault {
+            ScriptFault::Text { line, what } => Unread::Bad(FileFault::Script { line, what }),
+            ScriptFault::NoMemory => Unread::NoMemory,
+        }
+    }
+}
+
 // Why a relation that was loaded was not read.
 fn unread_relation(fault: RelationFault) -> Unread
     ensures { result ≡ unread_by fault }
@@ -120,15 +134,10 @@ fn script_in<S: Store>(alloc: Global, store: &mut S, name: &str) -> Result<Vec<L
     ensures form { IfErr result (IsUnreadAt FileRole.Script) }
 {
     let bytes = load(alloc, store, name, MOST_SCRIPT)?;
-    match read_script(alloc, &bytes) {
-        Ok(lines) => match unbuilt_line(&lines) {
-            Some(line) => Err(Unread::Bad(FileFault::NotYet { line })),
-            None => Ok(lines),
-        },
-        Err(ScriptFault::Text { line, what }) => {
-            Err(Unread::Bad(FileFault::Script { line, what }))
-        }
-        Err(ScriptFault::NoMemory) => Err(Unread::NoMemory),
+    let lines = read_script(alloc, &bytes)?;
+    match unbuilt_line(&lines) {
+        Some(line) => Err(Unread::Bad(FileFault::NotYet { line })),
+        None => Ok(lines),
     }
 }
 

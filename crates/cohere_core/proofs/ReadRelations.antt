@@ -1,5 +1,5 @@
 -- What a run knows of a relation that it has read.
-use Rattle.std.proofs.Common.{◌≡◌, ◌<◌, ◌≤◌, ◌^◌, ℕ, List, length, get_or, sym, ap, subst, ◌∙◌, arith}
+use Rattle.std.proofs.Common.{◌≡◌, ◌≤◌, ℕ, List, length, sym, ap, subst, ◌∙◌, arith}
 use Rattle.std.specs.Prelude.{Option, Some, None, IfSome}
 use Rattle.pair_colours.specs.Colouring.{PairColouring}
 use Rattle.scheme_io.specs.Files.{Files, Holds}
@@ -13,7 +13,7 @@ use Rattle.relation_text.proofs.RawColours.{raw_colours}
 use Rattle.recolour_bench.specs.History.{IsRawColouring}
 use Rattle.cohere_core.specs.declared.bad_files.FileFault.TheVariants.{Relation}
 use Rattle.cohere_core.specs.Bad.{IsRelationFile, IsRelationFault}
-use Rattle.cohere_core.specs.Inputs.{IsCause, unread_by}
+use Rattle.cohere_core.specs.Inputs.{IsCause, unread_relation}
 
 -- it starts a history
 pub IsRawColouring-read : (text : List ℕ) (line : ℕ) (C : PairColouring) → IsRelationText text line C → IsRawColouring C
@@ -40,6 +40,6 @@ relation_fault_of (Some files) name line bytes view what at same found short fau
 
 -- so a fault of reading is a cause
 pub relation_cause : (files : Option Files) (name : List ℕ) (line : ℕ) (bytes view : List ℕ) (fault : RelationFault) (rose : Type 0) → view ≡ bytes → Holds files name bytes → length bytes ≤ MOST_RELATION
-    → IsFaultOf fault (relation_fault view line) → IsCause files (λ files. IsRelationFault files name line) (unread_by fault) rose
+    → IsFaultOf fault (relation_fault view line) → IsCause files (λ files. IsRelationFault files name line) (unread_relation fault) rose
 relation_cause files name line bytes view (Text what at) rose same found short fault = (relation_fault_of files name line bytes view what at same found short fault, λ e. absurd cc)
 relation_cause files name line bytes view NoMemory rose same found short fault = tt

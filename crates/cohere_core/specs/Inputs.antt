@@ -19,16 +19,16 @@ use Rattle.cohere_core.specs.Task.{Task, Run}
 use Rattle.cohere_core.specs.Bad.{IsRelationFile, IsBuiltScript, IsOfRole, IsReached, IsFault}
 
 -- what a fault of loading says of the file
-abbrev pub unread_of : LoadFault → Unread
-unread_of loads.NoFile = Bad Missing
-unread_of loads.Failed = StoreFailed
-unread_of (loads.TooLong taken) = Bad TooLong
-unread_of loads.NoMemory = NoMemory
+abbrev pub unread_load : LoadFault → Unread
+unread_load loads.NoFile = Bad Missing
+unread_load loads.Failed = StoreFailed
+unread_load (loads.TooLong taken) = Bad TooLong
+unread_load loads.NoMemory = NoMemory
 
 -- what a fault of reading says of a relation
-abbrev pub unread_by : RelationFault → Unread
-unread_by (Text what at) = Bad (Relation what at)
-unread_by readings.NoMemory = NoMemory
+abbrev pub unread_relation : RelationFault → Unread
+unread_relation (Text what at) = Bad (Relation what at)
+unread_relation readings.NoMemory = NoMemory
 
 -- what a fault of reading says of a script
 abbrev pub unread_script : ScriptFault → Unread

@@ -5,7 +5,7 @@ ghost use Rattle.recolour_bench.specs.History.{IsRawColouring};
 ghost use Rattle.cohere_core.specs.Acts.{is_built, AreBuilt, first_unbuilt};
 ghost use Rattle.cohere_core.specs.Bad.{IsRelationFile, IsRelationFault, IsBuiltScript, IsScriptFault, name_in};
 ghost use Rattle.cohere_core.specs.Form.{asked};
-ghost use Rattle.cohere_core.specs.Inputs.{IsCause, IsUnreadAt, Halts, AreInputs, unread_by};
+ghost use Rattle.cohere_core.specs.Inputs.{IsCause, IsUnreadAt, Halts, AreInputs};
 ghost use Rattle.cohere_core.specs.Task.{IsAsked};
 
 use crate::bad_files::{FileFault, FileRole};
@@ -29,9 +29,9 @@ pub(crate) enum Unread {
 
 impl From<LoadFault> for Unread {
     ghost use Rattle.std.specs.Prelude.{◌≡◌};
-    ghost use Rattle.cohere_core.specs.Inputs.{unread_of};
+    ghost use Rattle.cohere_core.specs.Inputs.{unread_load};
 
-    ghost from_gives = { λ fault why. why ≡ unread_of fault };
+    ghost from_gives = { λ fault why. why ≡ unread_load fault };
 
     fn from(fault: LoadFault) -> Unread {
         match fault {
@@ -39,6 +39,20 @@ impl From<LoadFault> for Unread {
             LoadFault::Failed => Unread::StoreFailed,
             LoadFault::TooLong { taken: _ } => Unread::Bad(FileFault::TooLong),
             LoadFault::NoMemory => Unread::NoMemory,
+        }
+    }
+}
+
+impl From<RelationFault> for Unread {
+    ghost use Rattle.std.specs.Prelude.{◌≡◌};
+    ghost use Rattle.cohere_core.specs.Inputs.{unread_relation};
+
+    ghost from_gives = { λ fault why. why ≡ unread_relation fault };
+
+    fn from(fault: RelationFault) -> Unread {
+        match fault {
+            RelationFault::Text { what, at } => Unread::Bad(FileFault::Relation { what, at }),
+            RelationFault::NoMemory => Unread::NoMemory,
         }
     }
 }
@@ -54,16 +68,6 @@ impl From<ScriptFault> for Unread {
             ScriptFault::Text { line, what } => Unread::Bad(FileFault::Script { line, what }),
             ScriptFault::NoMemory => Unread::NoMemory,
         }
-    }
-}
-
-// Why a relation that was loaded was not read.
-fn unread_relation(fault: RelationFault) -> Unread
-    ensures { result ≡ unread_by fault }
-{
-    match fault {
-        RelationFault::Text { what, at } => Unread::Bad(FileFault::Relation { what, at }),
-        RelationFault::NoMemory => Unread::NoMemory,
     }
 }
 
@@ -84,10 +88,7 @@ fn relation_in<S: Store>(
     ensures form { IfErr result (IsUnreadAt FileRole.Relation) }
 {
     let bytes = load(alloc, store, name, MOST_RELATION)?;
-    match read_relation(alloc, &bytes, line) {
-        Ok(relation) => Ok(relation),
-        Err(fault) => Err(unread_relation(fault)),
-    }
+    Ok(read_relation(alloc, &bytes, line)?)
 }
 
 // Whether the act is one that is answered.

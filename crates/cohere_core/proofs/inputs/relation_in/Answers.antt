@@ -1,23 +1,22 @@
 use Rattle.std.proofs.Common.{sym, subst}
+use Rattle.std.proofs.lemmas.Result.{err_from_is_err_and}
 use Rattle.scheme_io.specs.Count.{Rose}
 use Rattle.cohere_core.specs.declared.inputs.Unread.{Unread}
 use Rattle.cohere_core.specs.Bad.{IsRelationFault}
 use Rattle.cohere_core.specs.Inputs.{IsCause}
-use Rattle.cohere_core.proofs.ReadRelations.{IsRawColouring-read, relation_file, relation_cause}
+use Rattle.cohere_core.proofs.ReadRelations.{relation_file, relation_cause}
 use Rattle.cohere_core.proofs.inputs.relation_in.Goals as goal
 
-pub returns-in-Ok-clause-raw : goal.returns-in-Ok-clause-raw
-returns-in-Ok-clause-raw g c = IsRawColouring-read c.deref.result.now c.args.line c.in-Ok.relation c.in-Ok.ensures.read
+pub returns-clause-read : goal.returns-clause-read
+returns-clause-read g c =
+    relation_file (g.S.Store.files c.args.store.now) c.args.name.now c.args.line c.in_ok-bytes.bytes.items c.deref.result.now c.in_ok-read_relation.field-0
+    c.deref.ensures.value c.in_ok-bytes.ensures.found c.in_ok-bytes.ensures.short c.in_ok-read_relation.ensures.read
 
-pub returns-in-Ok-clause-read : goal.returns-in-Ok-clause-read
-returns-in-Ok-clause-read g c =
-    relation_file (g.S.Store.files c.args.store.now) c.args.name.now c.args.line c.in_ok-bytes.bytes.items c.deref.result.now c.in-Ok.relation
-    c.deref.ensures.value c.in_ok-bytes.ensures.found c.in_ok-bytes.ensures.short c.in-Ok.ensures.read
-
-pub returns-clause-cause : goal.returns-clause-cause
-returns-clause-cause g c =
+pub returns-in_err-read_relation-clause-cause : goal.returns-in_err-read_relation-clause-cause
+returns-in_err-read_relation-clause-cause g c =
     let files = g.S.Store.files c.args.store.now in
     let rose = Rose (g.S.Store.faults c.args.store.now) (g.S.Store.faults c.load.new.store) in
-    subst (λ (why : Unread). IsCause files (λ files. IsRelationFault files c.args.name.now c.args.line) why rose) (sym c.unread_relation.ensures)
-    (relation_cause files c.args.name.now c.args.line c.in_ok-bytes.bytes.items c.deref.result.now c.in-Err.fault rose
-    c.deref.ensures.value c.in_ok-bytes.ensures.found c.in_ok-bytes.ensures.short c.in-Err.ensures.fault)
+    let err = err_from_is_err_and c.from_residual-in_err-read_relation.result c.from_residual-in_err-read_relation.ensures.1 in
+    let cause = relation_cause files c.args.name.now c.args.line c.in_ok-bytes.bytes.items c.deref.result.now c.in_err-read_relation.field-0.0 rose
+    c.deref.ensures.value c.in_ok-bytes.ensures.found c.in_ok-bytes.ensures.short c.in_err-read_relation.ensures.fault in
+    rw err.1 (subst (λ (why : Unread). IsCause files (λ files. IsRelationFault files c.args.name.now c.args.line) why rose) (sym err.2) cause)

@@ -1,4 +1,5 @@
-// The answers of a script, line by line.
+//! The answers of a script, line by line.
+
 ghost use Rattle.std.specs.Prelude.{◌≤◌, OnOk, OnErr, IfErr, IsErrOf};
 ghost use Rattle.scheme_io.specs.Count.{Rose};
 ghost use Rattle.recolour_bench.specs.History.{IsRawColouring};

@@ -1,4 +1,5 @@
-// The answer of one line: edits, undo and redo here, and the others by `queries`.
+//! The answer of one line: edits, undo and redo here, and the others by `queries`.
+
 ghost use Rattle.std.specs.Prelude.{◌≡◌, ◌≢◌, ℕ, List, true, IfOk, IfErr, OnOk, OnErr, IsErrOf, Some, None, MatchOption};
 ghost use Rattle.recolour_bench.specs.History.{IsHistory};
 ghost use Rattle.recolour_bench.specs.Steps as steps;

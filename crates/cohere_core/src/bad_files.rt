@@ -1,4 +1,4 @@
-// The files of a task, and why one of them is bad.
+//! The files of a task, and why one of them is bad.
 
 use relation_text::RelationWord;
 use script_text::ScriptWord;

@@ -1,4 +1,5 @@
-// What a run reads before it writes.
+//! What a run reads before it writes.
+
 ghost use Rattle.std.specs.Prelude.{◌≡◌, ◌≤◌, not, IfOk, IfErr, IfSome, None};
 ghost use Rattle.scheme_io.specs.Count.{Rose};
 ghost use Rattle.recolour_bench.specs.History.{IsRawColouring};

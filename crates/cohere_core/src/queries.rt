@@ -1,4 +1,5 @@
-// The answers of the lines that change nothing.
+//! The answers of the lines that change nothing.
+
 ghost use Rattle.std.specs.Prelude.{◌≡◌, true, IfOk, None};
 ghost use Rattle.pair_colours.specs.Closure.{IsClosureOf};
 ghost use Rattle.recolour_bench.specs.History.{present};

@@ -1,4 +1,5 @@
-// The top call.
+//! The top call.
+
 ghost use Rattle.std.specs.Prelude.{◌≡◌, ◌≢◌, ◌≤◌, ◌⊎◌, ◌↔◌, IfSome, None};
 ghost use Rattle.scheme_io.specs.Count.{Rose};
 ghost use Rattle.cohere_core.specs.Form.{asked};

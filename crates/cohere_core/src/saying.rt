@@ -1,4 +1,5 @@
-// Lines on standard error. They take no memory, and a failure of the sink changes no answer.
+//! Lines on standard error. They take no memory, and a failure of the sink changes no answer.
+
 ghost use Rattle.std.specs.Prelude.{◌≡◌, ◌++◌, flat_map, codes};
 ghost use Rattle.cohere_core.specs.Said.{AddsLine};
 ghost use Rattle.cohere_core.specs.Lines.{usage_line, memory_line, unread_line, too_long_line, place_line, numbered_line, fault_line, relation_word, script_word};

@@ -1,4 +1,5 @@
-// How a run ended.
+//! How a run ended.
+
 ghost use Rattle.std.specs.Prelude.{◌≡◌};
 
 /// What `run` answers.

@@ -1,4 +1,5 @@
-// The words of the program.
+//! The words of the program.
+
 ghost use Rattle.std.specs.Prelude.{◌≡◌, Some, None, MatchOption, IfSome};
 ghost use Rattle.cohere_core.specs.Task.{texts, run_of, run_in, task_of, IsAsked};
 ghost use Rattle.cohere_core.specs.Form.{asked};

@@ -1,4 +1,5 @@
-// Runs over stores and sinks in memory: what is answered, written and said.
+//! Runs over stores and sinks in memory: what is answered, written and said.
+
 use crate::{Status, run};
 use scheme_io::{MemorySink, MemoryStore};
 use std::alloc::{AllocError, Global};

@@ -1,4 +1,4 @@
-// How many neighbours of a point are nearer to another point, and how many farther.
+//! How many neighbours of a point are nearer to another point, and how many farther.
 
 ghost use Rattle.std.specs.Prelude.{◌≡◌, ◌+◌, ◌*◌, ◌<◌, ◌≤◌, ℕ, IfOk, All, length};
 ghost use Rattle.drg_arrays.specs.Tables.{AreCounts, neighbour_count};

@@ -1,4 +1,4 @@
-// The distances of all pairs.
+//! The distances of all pairs.
 
 ghost use Rattle.std.specs.Prelude.{◌≡◌, ◌≢◌, ◌+◌, ◌<◌, ◌≤◌, ℕ, IfOk, IfSome, IfNone, length, slice_index};
 ghost use Rattle.drg_arrays.specs.Tables.{IsDistanceTable};

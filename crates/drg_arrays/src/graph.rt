@@ -1,4 +1,4 @@
-// The graph of a set of colours.
+//! The graph of a set of colours.
 
 ghost use Rattle.std.specs.Prelude.{◌≡◌, ◌+◌, ◌*◌, ◌<◌, ◌≤◌, IfOk, map};
 ghost use Rattle.pair_colours.specs.ColourSets.{is_in};

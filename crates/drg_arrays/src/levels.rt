@@ -1,4 +1,4 @@
-// The distances from one point, by a search level by level.
+//! The distances from one point, by a search level by level.
 
 ghost use Rattle.std.specs.Prelude.{◌≡◌, ◌==◌, ◌&&◌, ◌⊎◌, ◌+◌, ◌<◌, ◌≤◌, ℕ, IsTrue, IfOk, length, slice_index, if◌then◌else◌};
 ghost use Rattle.drg_arrays.specs.Graph.{is_edge};

@@ -1,4 +1,4 @@
-// The first place of each distance, and the first place whose counts are not those of that one.
+//! The first place of each distance, and the first place whose counts are not those of that one.
 
 ghost use Rattle.std.specs.Prelude.{◌≡◌, ◌+◌, ◌<◌, ◌≤◌, ℕ, IfOk, IfSome, IfNone, All, length};
 ghost use Rattle.drg_arrays.specs.Tables.{AreFirstPlaces, IsAlikeAt, IsFirstUnlike};

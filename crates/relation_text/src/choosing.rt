@@ -1,4 +1,4 @@
-// The line on which a relation begins.
+//! The line on which a relation begins.
 
 ghost use Rattle.std.specs.Prelude.{◌≡◌, ◌+◌, ◌^◌, ◌<◌, ◌≤◌, [], ◌∷◌, All, IfSome, MatchOption, length};
 ghost use Rattle.text_lines.specs.Lines.{lines_of};

@@ -1,4 +1,4 @@
-// The bits of a graph line, and the colouring that they give.
+//! The bits of a graph line, and the colouring that they give.
 
 ghost use Rattle.std.specs.Prelude.{◌≡◌, ℕ, ◌+◌, ◌*◌, ◌/◌, ◌<◌, ◌≤◌, All, IfOk, length, slice_index};
 ghost use Rattle.pair_colours.specs.Colouring.{IsColouring};

@@ -1,4 +1,4 @@
-// The faults of a graph line.
+//! The faults of a graph line.
 
 ghost use Rattle.std.specs.Prelude.{◌≡◌, ◌==◌, ◌≤◌, ◌<◌, ◌+◌, ◌-◌, ◌*◌, ◌/◌, ◌^◌, not, true, false, All, None, IfNone, IfSome, length, slice_index};
 ghost use Rattle.std.specs.List.{list_any, position_or_len, range_with_len};

@@ -1,4 +1,4 @@
-// Graph lines.
+//! Graph lines.
 
 ghost use Rattle.std.specs.Prelude.{◌≡◌, ◌^◌, ◌<◌, None, IfOk, IfErr, OnOk};
 ghost use Rattle.text_lines.specs.Views.{part_of};

@@ -1,4 +1,4 @@
-// Matrices.
+//! Matrices.
 
 ghost use Rattle.std.specs.Prelude.{◌≡◌, ℕ, ◌+◌, ◌^◌, ◌<◌, ◌≤◌, None, All, IfOk, IfErr, OnOk, Some};
 ghost use Rattle.text_lines.specs.Views.{part_of};

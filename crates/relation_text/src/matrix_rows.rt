@@ -1,4 +1,4 @@
-// The rows of a matrix.
+//! The rows of a matrix.
 
 ghost use Rattle.std.specs.Prelude.{◌≡◌, ◌≢◌, ℕ, ◌<◌, ◌≤◌, true, false, not, All, Some, IfNone, IfSome, MatchOption, length};
 ghost use Rattle.std.specs.List.{list_any, position_or_len};

@@ -1,4 +1,4 @@
-// Relations as a whole.
+//! Relations as a whole.
 
 ghost use Rattle.std.specs.Prelude.{◌≡◌, ◌≤◌, All, None, IfOk, IfErr, OnOk, length};
 ghost use Rattle.pair_colours.specs.declared.coloured_pairs.TheConstants.{MOST_COLOUR};

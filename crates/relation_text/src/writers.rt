@@ -1,4 +1,4 @@
-// The writers of relations.
+//! The writers of relations.
 
 ghost use Rattle.std.specs.Prelude.{◌≡◌, ◌<◌, ◌++◌, IfOk, OnOk, IsErrOf};
 ghost use Rattle.pair_colours.specs.ColourSets.{IsColourSet, IsEdgeSet};

@@ -1,4 +1,4 @@
-// From the words of a line to what they ask for.
+//! From the words of a line to what they ask for.
 
 ghost use Rattle.std.specs.Prelude.{◌≡◌, ◌≢◌, ◌<◌, ◌^◌, ◌∷◌, All, IsTrue, IfOk, IfErr, false, codes, bytes_eq, length, if◌then◌else◌};
 ghost use Rattle.std.specs.Str.{IsAscii};

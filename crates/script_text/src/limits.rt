@@ -1,4 +1,4 @@
-// The limits of scripts.
+//! The limits of scripts.
 
 /// The most bytes of a script.
 pub const MOST_SCRIPT: u32 = 1_048_576;

@@ -1,4 +1,4 @@
-// From the bytes of a text to the lines of a script.
+//! From the bytes of a text to the lines of a script.
 
 ghost use Rattle.std.specs.Prelude.{◌≡◌, ◌==◌, ◌+◌, ◌<◌, ◌≤◌, ◌^◌, ℕ, All, IfOk, IfErr, OnOk, Some, None, map, true, length, slice_index};
 ghost use Rattle.std.specs.List.{list_all};

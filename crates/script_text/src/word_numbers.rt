@@ -1,4 +1,4 @@
-// The numbers among the words of a line.
+//! The numbers among the words of a line.
 
 ghost use Rattle.std.specs.Prelude.{◌≡◌, ◌<◌, ◌^◌, ◌∷◌, [], IfOk, IfErr, not, length};
 ghost use Rattle.std.specs.List.{AllZip, list_all};

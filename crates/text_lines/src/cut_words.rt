@@ -1,4 +1,4 @@
-// Blanks and words.
+//! Blanks and words.
 
 ghost use Rattle.std.specs.Prelude.{◌≡◌, ◌≤◌, not, length};
 ghost use Rattle.std.specs.List.{position_or_len};

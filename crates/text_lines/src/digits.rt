@@ -1,4 +1,4 @@
-// The form of numbers.
+//! The form of numbers.
 
 ghost use Rattle.std.specs.Prelude.{◌≡◌, ℕ, IfSome, IfNone, MatchOption};
 ghost use Rattle.text_lines.specs.Number.{IsNumberForm, number_of};

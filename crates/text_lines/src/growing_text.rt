@@ -1,4 +1,4 @@
-// Texts that are put together.
+//! Texts that are put together.
 
 ghost use Rattle.std.specs.Prelude.{◌≡◌, ◌++◌, ℕ, List, [], codes, decimal, OnOk, IfOk};
 ghost use Rattle.text_lines.specs.Joined.{joined, spaced, separator_before};

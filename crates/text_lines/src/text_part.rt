@@ -1,4 +1,4 @@
-// A line or a word where it stands.
+//! A line or a word where it stands.
 
 ghost use Rattle.std.specs.Prelude.{◌+◌, ◌^◌, ◌<◌, length};
 

@@ -1,4 +1,4 @@
-// Closures that can be worked out by hand.
+//! Closures that can be worked out by hand.
 
 ghost use Rattle.std.specs.Prelude.{◌≤◌};
 ghost use Rattle.pair_colours.specs.declared.coloured_pairs.TheConstants.{MOST_POINTS};

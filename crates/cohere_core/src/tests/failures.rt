@@ -1,4 +1,5 @@
-// Stores and sinks that fail.
+//! Stores and sinks that fail.
+
 use super::words_of;
 use crate::{Status, run};
 use scheme_io::{MemorySink, MemoryStore};

@@ -1,4 +1,5 @@
-// Scripts of edits.
+//! Scripts of edits.
+
 use super::answers;
 use std::test::Fail;
 

@@ -1,4 +1,5 @@
-// Queries about the closure.
+//! Queries about the closure.
+
 use super::answers;
 use std::test::Fail;
 

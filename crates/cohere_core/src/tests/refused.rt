@@ -1,4 +1,5 @@
-// Words and texts that are refused.
+//! Words and texts that are refused.
+
 use super::{Outcome, answers, expect, refuses};
 use crate::Status;
 use std::test::Fail;

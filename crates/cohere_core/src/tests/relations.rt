@@ -1,4 +1,5 @@
-// Relations that are read, and their closures.
+//! Relations that are read, and their closures.
+
 use super::{Outcome, answers, expect};
 use crate::Status;
 use std::alloc::Global;

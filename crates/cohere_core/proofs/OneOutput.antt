@@ -1,15 +1,13 @@
 -- A script has no more than one output over a relation.
-use Rattle.std.proofs.Common.{◌≡◌, ◌⊎◌, ℕ, Bool, true, false, cond, List, [], ◌∷◌, ◌++◌, ◌+◌, length, Option, Some, None, ⊎_elim, refl, sym, ap, subst, ◌∙◌, arith, inl}
-use Rattle.std.proofs.lemmas.Bool.{eqb-true}
-use Rattle.std.specs.Prelude.{◌↔◌, ◌==◌, IsTrue, MatchOption}
+use Rattle.std.proofs.Common.{◌≡◌, ◌⊎◌, ℕ, Bool, true, false, List, [], ◌∷◌, ◌++◌, Option, Some, None, ⊎_elim, refl, sym, ap, subst, ◌∙◌, inl}
+use Rattle.std.specs.Prelude.{◌↔◌, IsTrue, MatchOption}
 use Rattle.pair_colours.specs.Colouring.{PairColouring}
 use Rattle.pair_colours.specs.Naming.{rank_of}
 use Rattle.pair_colours.proofs.Closures.{named_closure_is_unique}
 use Rattle.recolour_bench.specs.History.{History, IsHistory, IsRawColouring, present, started}
 use Rattle.recolour_bench.specs.declared.edits.EditFault.{EditFault}
-use Rattle.recolour_bench.specs.declared.edits.EditFault.TheVariants.{NothingToUndo, NothingToRedo}
 use Rattle.recolour_bench.specs.Steps as steps
-use Rattle.recolour_bench.proofs.Stepping.{IsHistory-started, IsRawColouring-present, step_is_unique}
+use Rattle.recolour_bench.proofs.Stepping.{IsHistory-started, IsRawColouring-present, not_both, step_is_unique}
 use Rattle.report_text.specs.EditLines.{ok_text, refused_text_of}
 use Rattle.report_text.specs.Matrices.{show_text}
 use Rattle.report_text.specs.Classes.{classes_text_of}
@@ -83,15 +81,8 @@ one_query h act t u i a b = absurd a
 
 -- ---- one answer of an edit, an undo or a redo
 
-test_holds : (b : Bool) (fault other : EditFault) → cond b (Some fault) None ≡ Some other → b ≡ true
-test_holds true fault other e = refl
-test_holds false fault other e = let z : None ≡ Some other = e in cc
-
--- an act is not both accepted and refused
 not_refused : (h : History) (move : steps.Act) (next : History) (fault : EditFault) → steps.Accepts h move next → steps.refusal h move ≡ Some fault → ⊥
-not_refused h (steps.edits edit) next fault a r = let z : None ≡ Some fault = sym a.1.allowed ∙ r in cc
-not_refused h steps.undoes next fault a r = omega (arith, a.allowed, eqb-true h.position 0 (test_holds (h.position == 0) NothingToUndo fault r))
-not_refused h steps.redoes next fault a r = omega (arith, a.allowed, eqb-true (h.position + 1) (length h.entries) (test_holds (h.position + 1 == length h.entries) NothingToRedo fault r))
+not_refused h move next fault a r = not_both h move next h a (record { fault = fault; refused = r; same = refl })
 
 one_fault : (o : Option EditFault) (fault other : EditFault) → o ≡ Some fault → o ≡ Some other → fault ≡ other
 one_fault o fault other e f = let g : Some fault ≡ Some other = sym e ∙ f in cc

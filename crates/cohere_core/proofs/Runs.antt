@@ -209,9 +209,6 @@ built_from_none (line ∷ lines) h = λ k d l. by (is_built line.act) refl (buil
 
 -- ---- lines that are answered one after the other
 
-pub none_answered : (h : History) (lines : List Line) (a : Option (List ℕ)) → Answered h (take 0 lines) h a a
-none_answered h lines a = ([], (refl, refl), Appends-nil a)
-
 pub one_more : (lines : List Line) (i : ℕ) (d : Line) (h m next : History) (a b c : Option (List ℕ)) (first : List ℕ) → i < length lines → Answers m (get_or lines i d).act next first
     → Answered h (take i lines) m a b → Appends b c first → Answered h (take (i + 1) lines) next a c
 one_more lines i d h m next a b c first lt answers so_far added = (

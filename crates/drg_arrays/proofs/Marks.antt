@@ -76,9 +76,6 @@ missed G w level old y u j =
 kept : (G : Graph) (w level : ℕ) (old : List ℕ) (y : ℕ) → (get_or old y 0 ≡ UNREACHED → ⊥) → marked_level G w level old y ≡ get_or old y 0
 kept G w level old y u = ap (λ b. cond (b && is_edge G w y) level (get_or old y 0)) (ne_eqb (get_or old y 0) UNREACHED u)
 
-pub IsNextLevel-start : (G : Graph) (old : List ℕ) (level : ℕ) → IsNextLevel G old old level 0
-IsNextLevel-start G old level = record { kept = λ y hy u. refl; left = λ y hy u. inl u; marked = λ w y l. absurd (omega (arith, l)) }
-
 -- a point that is not at the level adds nothing
 pub IsNextLevel-skip : (G : Graph) (old now : List ℕ) (level w : ℕ) → level + 1 < UNREACHED → (get_or now w 0 ≡ level → ⊥)
     → IsNextLevel G old now level w → IsNextLevel G old now level (w + 1)

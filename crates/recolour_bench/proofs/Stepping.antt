@@ -160,15 +160,15 @@ Refuses-undo h e = record { fault = NothingToUndo; refused = ap (λ b. cond b (S
 pub Refuses-redo : (h : History) → h.position + 1 ≡ length h.entries → Refuses h redoes h
 Refuses-redo h e = record { fault = NothingToRedo; refused = ap (λ b. cond b (Some NothingToRedo) None) (eq-eqb (h.position + 1) (length h.entries) e); same = refl }
 
-test_false : (b : Bool) (fault other : EditFault) → cond b (Some fault) None ≡ Some other → b ≡ true
-test_false true fault other e = refl
-test_false false fault other e = let z : None ≡ Some other = e in cc
+test_holds : (b : Bool) (fault other : EditFault) → cond b (Some fault) None ≡ Some other → b ≡ true
+test_holds true fault other e = refl
+test_holds false fault other e = let z : None ≡ Some other = e in cc
 
 -- an act is not both accepted and refused
-not_both : (h : History) (act : Act) (h2 h3 : History) → Accepts h act h2 → Refuses h act h3 → ⊥
+pub not_both : (h : History) (act : Act) (h2 h3 : History) → Accepts h act h2 → Refuses h act h3 → ⊥
 not_both h (edits e) h2 h3 a r = let z : None ≡ Some r.fault = sym a.1.allowed ∙ r.refused in cc
-not_both h undoes h2 h3 a r = omega (arith, a.allowed, eqb-true h.position 0 (test_false (h.position == 0) NothingToUndo r.fault r.refused))
-not_both h redoes h2 h3 a r = omega (arith, a.allowed, eqb-true (h.position + 1) (length h.entries) (test_false (h.position + 1 == length h.entries) NothingToRedo r.fault r.refused))
+not_both h undoes h2 h3 a r = omega (arith, a.allowed, eqb-true h.position 0 (test_holds (h.position == 0) NothingToUndo r.fault r.refused))
+not_both h redoes h2 h3 a r = omega (arith, a.allowed, eqb-true (h.position + 1) (length h.entries) (test_holds (h.position + 1 == length h.entries) NothingToRedo r.fault r.refused))
 
 -- what an accepted act makes is one history
 accepts_one : (h : History) (act : Act) (h2 h3 : History) → IsHistory h → Accepts h act h2 → Accepts h act h3 → h2 ≡ h3

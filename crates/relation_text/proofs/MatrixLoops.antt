@@ -87,14 +87,6 @@ ReadsRows-more len n rows C D x left more row so_far e h none colouring points h
       ];
     }
 
--- all rows are read
-pub rows_fault-none : (len n : ℕ) (rows : List Part) (C : PairColouring) (x : ℕ) (left : List Part) → ReadsRows len n rows C x left → n ≤ x → rows_fault len n rows 0 ≡ None
-rows_fault-none len n rows C x left so_far h = let over : n - x ≡ 0 = omega arith in so_far.tests ∙ ap (λ m. first_fault (flat_map (λ u. row_tests len n (slice_get rows u)) (range_with_len x m))) over
-
--- the fault of a matrix is that of its head line or, where that has none, of its rows
-pub matrix_fault-head : (len : ℕ) (head : Part) (rows : List Part) (fault : RelationWord × ℕ) → first_fault (head_tests head) ≡ Some fault → first_fault (matrix_tests len head rows) ≡ Some fault
-matrix_fault-head len head rows fault e = first_fault-append_some (head_tests head) (flat_map (λ x. row_tests len (size_in head) (slice_get rows x)) (points (size_in head))) fault e
-
 pub matrix_fault-rows : (len : ℕ) (head : Part) (rows : List Part) (n : ℕ) → first_fault (head_tests head) ≡ None → n ≡ size_in head → first_fault (matrix_tests len head rows) ≡ rows_fault len n rows 0
 matrix_fault-rows len head rows n none size =
     let whole : n ≡ n - 0 = omega arith in

@@ -13,9 +13,6 @@ use Rattle.relation_text.specs.Written.{pair_bits}
 abbrev pub bits_to : PairColouring → List ℕ → List (ℕ × ℕ) → (ℕ → ℕ × ℕ) → ℕ → List Bool
 bits_to C set first f k = pair_bits C set (first ++ map f (points k))
 
-pub bits_to-none : (C : PairColouring) (set : List ℕ) (first : List (ℕ × ℕ)) (f : ℕ → ℕ × ℕ) → pair_bits C set first ≡ bits_to C set first f 0
-bits_to-none C set first f = ap (pair_bits C set) (sym (append-nil first))
-
 pub bits_to-more : (C : PairColouring) (set : List ℕ) (first : List (ℕ × ℕ)) (f : ℕ → ℕ × ℕ) (k : ℕ) → bits_to C set first f (k + 1) ≡ bits_to C set first f k ++ is_in set (colour_at C (f k).0 (f k).1) ∷ []
 bits_to-more C set first f k =
     let bit = λ (p : ℕ × ℕ). is_in set (colour_at C p.0 p.1) in

@@ -4,7 +4,7 @@ use Rattle.std.specs.Prelude.{All, not}
 use Rattle.std.specs.List.{list_any, position_or_len}
 use Rattle.std.specs.Char.{is_ascii_digit}
 use Rattle.std.specs.Str.Parse.{digits_value}
-use Rattle.std.proofs.lemmas.Bool.{cases_lt, not-false, lt-leb, le-leb, lt-ltb, le-ltb}
+use Rattle.std.proofs.lemmas.Bool.{cases_lt, not-false, lt-leb, lt-ltb, le-ltb}
 use Rattle.std.proofs.lemmas.List.{drop-drop, get_or-drop}
 use Rattle.std.proofs.lemmas.List.Elements.{All-head, All-rest, All-same, All-weaker}
 use Rattle.text_lines.specs.Part.{Part}
@@ -90,33 +90,8 @@ fault_left-good n y row word left more e inside plain small = ap (fault_left n y
     ∙ three (leb n y) (has_leading_zero word.bytes) (ltb MOST_COLOUR (digits_value 10 word.bytes)) (MatrixCount, word.start) (MatrixNumber, word.start) (ColourTooLarge, word.start)
     (fault_left n (y + 1) row more) (lt-leb n y inside) plain (le-ltb MOST_COLOUR (digits_value 10 word.bytes) small)
 
-pub fault_left-zero : (n y : ℕ) (row word : Part) (left more : List Part) → left ≡ word ∷ more → y < n → has_leading_zero word.bytes ≡ true → fault_left n y row left ≡ Some (MatrixNumber, word.start)
-fault_left-zero n y row word left more e inside zero_first =
-    let rest = cond (ltb MOST_COLOUR (digits_value 10 word.bytes)) (Some (ColourTooLarge, word.start)) (fault_left n (y + 1) row more) in
-    ap (fault_left n y row) e
-    ∙ ap (λ t. cond t (Some (MatrixCount, word.start)) (cond (has_leading_zero word.bytes) (Some (MatrixNumber, word.start)) rest)) (lt-leb n y inside)
-    ∙ ap (λ t. cond t (Some (MatrixNumber, word.start)) rest) zero_first
-
-pub fault_left-large : (n y : ℕ) (row word : Part) (left more : List Part) → left ≡ word ∷ more → y < n → has_leading_zero word.bytes ≡ false → MOST_COLOUR < digits_value 10 word.bytes → fault_left n y row left ≡ Some (ColourTooLarge, word.start)
-fault_left-large n y row word left more e inside plain large =
-    let last = fault_left n (y + 1) row more in
-    let rest = cond (ltb MOST_COLOUR (digits_value 10 word.bytes)) (Some (ColourTooLarge, word.start)) last in
-    ap (fault_left n y row) e
-    ∙ ap (λ t. cond t (Some (MatrixCount, word.start)) (cond (has_leading_zero word.bytes) (Some (MatrixNumber, word.start)) rest)) (lt-leb n y inside)
-    ∙ ap (λ t. cond t (Some (MatrixNumber, word.start)) rest) plain
-    ∙ ap (λ t. cond t (Some (ColourTooLarge, word.start)) last) (lt-ltb MOST_COLOUR (digits_value 10 word.bytes) large)
-
-pub fault_left-many : (n y : ℕ) (row word : Part) (left more : List Part) → left ≡ word ∷ more → n ≤ y → fault_left n y row left ≡ Some (MatrixCount, word.start)
-fault_left-many n y row word left more e past =
-    let last = fault_left n (y + 1) row more in
-    ap (fault_left n y row) e
-    ∙ ap (λ t. cond t (Some (MatrixCount, word.start)) (cond (has_leading_zero word.bytes) (Some (MatrixNumber, word.start)) (cond (ltb MOST_COLOUR (digits_value 10 word.bytes)) (Some (ColourTooLarge, word.start)) last))) (le-leb n y past)
-
 pub fault_left-few : (n y : ℕ) (row : Part) (left : List Part) → left ≡ [] → length (words_of row) < n → fault_left n y row left ≡ Some (MatrixCount, end_of row)
 fault_left-few n y row left e few = ap (fault_left n y row) e ∙ ap (λ t. cond t (Some (MatrixCount, end_of row)) None) (lt-ltb (length (words_of row)) n few)
-
-pub fault_left-none : (n y : ℕ) (row : Part) (left : List Part) → left ≡ [] → n ≤ length (words_of row) → fault_left n y row left ≡ None
-fault_left-none n y row left e enough = ap (fault_left n y row) e ∙ ap (λ t. cond t (Some (MatrixCount, end_of row)) None) (le-ltb (length (words_of row)) n enough)
 
 -- no word is left
 pub no_word : (row : Part) (old new : PairColouring) (x y : ℕ) (left : List Part) → ReadsRow row old new x y left → left ≡ [] → length (words_of row) ≤ y

@@ -1,12 +1,12 @@
 -- The steps of the search for the points that a class reaches from point 0.
-use Rattle.std.proofs.Common.{◌≡◌, ℕ, suc, zero, ◌+◌, ◌<◌, ◌≤◌, Bool, true, false, not, cond, List, [], ◌∷◌, ◌++◌, length, get_or, set, replicate, count_by, Contains, ◌⊎◌, inl, inr, ⊎_elim, refl, sym, ap, subst, ◌∙◌, arith}
-use Rattle.std.proofs.lemmas.Bool.{cases_lt, cases_eq, both_ways}
-use Rattle.std.proofs.lemmas.List.{length-set, length-replicate, get_or-replicate, get_or-set_same, get_or-set_other, get_or_append_left, length_push}
+use Rattle.std.proofs.Common.{◌≡◌, ℕ, suc, zero, ◌+◌, ◌<◌, ◌≤◌, Bool, true, false, not, cond, List, [], ◌∷◌, ◌++◌, length, get_or, set, count_by, Contains, ◌⊎◌, inl, inr, ⊎_elim, sym, ap, subst, ◌∙◌, arith}
+use Rattle.std.proofs.lemmas.Bool.{cases_lt, cases_eq}
+use Rattle.std.proofs.lemmas.List.{length-set, get_or-set_same, get_or-set_other, get_or_append_left, length_push}
 use Rattle.std.proofs.lemmas.List.Sums.{sum_by-set}
 use Rattle.std.proofs.lemmas.List.Elements.{All-push, Contains-append_left, Contains-push, Contains-push_cases, All-contains}
 use Rattle.pair_colours.specs.Colouring.{PairColouring}
 use Rattle.scheme_tests.specs.Steps.{Step, Path, Joined, mark_at, MarksReached, IsSearch, IsSpread, IsSpreadTo, work_left}
-use Rattle.scheme_tests.proofs.Paths.{Joined-refl, Joined-step}
+use Rattle.scheme_tests.proofs.Paths.{Joined-step}
 
 -- a mark that is set, and the others
 mark_here : (marks : List Bool) (y : ℕ) → y < length marks → mark_at (set marks y true) y ≡ true
@@ -119,35 +119,6 @@ spread_start K c x marks old waiting e h = record {
   where
     last : (x < K.size) × (mark_at marks x ≡ true)
     last = All-contains (λ a. (a < K.size) × (mark_at marks a ≡ true)) old x h.search.wait (subst (λ ws. Contains ws x) (sym e) (Contains-push waiting x))
-
--- at first only point 0 is marked, and it waits
-pub search_start : (K : PairColouring) (c : ℕ) (marks : List Bool) (waiting : List ℕ) → 1 ≤ K.size → marks ≡ set (replicate K.size false) 0 true → waiting ≡ [] ++ 0 ∷ [] → IsSpread K c marks waiting
-search_start K c marks waiting one e f =
-    subst (λ ms. IsSpread K c ms waiting) (sym e) (subst (λ ws. IsSpread K c start ws) (sym f) (record {
-      search = record {
-        len = length-set (replicate K.size false) 0 true ∙ len;
-        start = first;
-        sound = λ y hy t. subst (Joined K c 0) (sym (only y hy t)) (Joined-refl K c 0);
-        wait = λ k d l. let z : k ≡ 0 = omega (arith, l) in subst (λ j. (get_or (0 ∷ []) j d < K.size) × (mark_at start (get_or (0 ∷ []) j d) ≡ true)) (sym z) (omega (arith, one), first);
-      };
-      onward = λ a b ha hb t q. inr (subst (Contains (0 ∷ [])) (sym (only a ha t)) (0, omega arith, refl));
-    }))
-  where
-    start : List Bool
-    start = set (replicate K.size false) 0 true
-
-    len : length (replicate K.size false) ≡ K.size
-    len = length-replicate K.size false
-
-    first : mark_at (set (replicate K.size false) 0 true) 0 ≡ true
-    first = mark_here (replicate K.size false) 0 (omega (arith, one, len))
-
-    only : (y : ℕ) → y < K.size → mark_at (set (replicate K.size false) 0 true) y ≡ true → y ≡ 0
-    only y hy t = ⊎_elim
-        (λ e'. e')
-        (λ ne. let off : mark_at (replicate K.size false) y ≡ false = get_or-replicate K.size y false false hy in
-        absurd (both_ways _ (mark_other (replicate K.size false) 0 y ne ∙ off) t))
-        (cases_eq y 0)
 
 -- at the end no point waits, and all that are joined to point 0 are marked
 pub search_end : (K : PairColouring) (c : ℕ) (marks : List Bool) (waiting : List ℕ) → waiting ≡ [] → IsSpread K c marks waiting → MarksReached K c marks

@@ -37,11 +37,6 @@ commutes_from_entries K k entries r each = record {
         ∙ subst (λ (f : Entry). f.count ≡ intersection_number K f.left f.right k) is counted
         ∙ (λ t. intersection_number K (a.4.0 t) (a.4.1 t) k)
 
--- and where they are not so at an entry, they are not the same
-pub commutes_at_entry : (K : PairColouring) (k : ℕ) (e : Entry) → e.left < rank_of K → e.right < rank_of K → e.count ≡ intersection_number K e.left e.right k → CommutesAt K k
-    → intersection_number K e.right e.left k ≡ e.count
-commutes_at_entry K k e hl hr c h = sym (h.swapped e.left e.right hl hr) ∙ sym c
-
 -- the classes before the n-th commute
 pub record CommutesBefore (K : PairColouring) (n : ℕ) : Type 0 where
   pub each : (k : ℕ) → k < n → CommutesAt K k

@@ -7,3 +7,4 @@ pub mod ClosedSet
 pub mod Lists
 pub mod SideCodes
 pub mod ColourSets
+pub mod Tests

@@ -1,10 +1,10 @@
 -- A script has no more than one output over a relation.
 use Rattle.std.proofs.Common.{◌≡◌, ◌⊎◌, ℕ, Bool, true, false, List, [], ◌∷◌, ◌++◌, Option, Some, None, ⊎_elim, refl, sym, ap, subst, ◌∙◌, inl}
 use Rattle.std.specs.Prelude.{◌↔◌, IsTrue, MatchOption}
-use Rattle.pair_colours.specs.Colouring.{PairColouring}
+use Rattle.pair_colours.specs.Colouring.{PairColouring, IsRawColouring}
 use Rattle.pair_colours.specs.Naming.{rank_of}
 use Rattle.pair_colours.proofs.Closures.{named_closure_is_unique}
-use Rattle.recolour_bench.specs.History.{History, IsHistory, IsRawColouring, present, started}
+use Rattle.recolour_bench.specs.History.{History, IsHistory, present, started}
 use Rattle.recolour_bench.specs.declared.edits.EditFault.{EditFault}
 use Rattle.recolour_bench.specs.Steps as steps
 use Rattle.recolour_bench.proofs.Stepping.{IsHistory-started, IsRawColouring-present, not_both, step_is_unique}

@@ -1,7 +1,7 @@
 -- What a run knows of a relation that it has read.
 use Rattle.std.proofs.Common.{◌≡◌, ◌≤◌, ℕ, List, length, sym, ap, subst, ◌∙◌, arith}
 use Rattle.std.specs.Prelude.{Option, Some, None, IfSome}
-use Rattle.pair_colours.specs.Colouring.{PairColouring}
+use Rattle.pair_colours.specs.Colouring.{PairColouring, IsRawColouring}
 use Rattle.scheme_io.specs.Files.{Files, Holds}
 use Rattle.relation_text.specs.Faults.{IsFaultOf, relation_fault}
 use Rattle.relation_text.specs.declared.faults.RelationFault.{RelationFault}
@@ -10,7 +10,6 @@ use Rattle.relation_text.specs.declared.faults.RelationWord.{RelationWord}
 use Rattle.relation_text.specs.declared.reading.TheConstants.{MOST_RELATION}
 use Rattle.relation_text.specs.Relation.{IsRelationText}
 use Rattle.relation_text.proofs.RawColours.{raw_colours}
-use Rattle.recolour_bench.specs.History.{IsRawColouring}
 use Rattle.cohere_core.specs.declared.bad_files.FileFault.TheVariants.{Relation}
 use Rattle.cohere_core.specs.Bad.{IsRelationFile, IsRelationFault}
 use Rattle.cohere_core.specs.Inputs.{IsCause, unread_relation}

@@ -1,7 +1,6 @@
 -- What holds of the output of every script over every relation.
 use Rattle.std.specs.Prelude.{◌≡◌, ℕ, List}
-use Rattle.pair_colours.specs.Colouring.{PairColouring}
-use Rattle.recolour_bench.specs.History.{IsRawColouring}
+use Rattle.pair_colours.specs.Colouring.{PairColouring, IsRawColouring}
 use Rattle.script_text.specs.declared.acts.Line.{Line}
 use Rattle.cohere_core.specs.Acts.{AreBuilt}
 use Rattle.cohere_core.specs.Output.{ScriptOutput}

@@ -2,7 +2,7 @@
 
 ghost use Rattle.std.specs.Prelude.{◌≡◌, ◌≤◌, not, IfOk, IfErr, IfSome, None};
 ghost use Rattle.scheme_io.specs.Count.{Rose};
-ghost use Rattle.recolour_bench.specs.History.{IsRawColouring};
+ghost use Rattle.pair_colours.specs.Colouring.{IsRawColouring};
 ghost use Rattle.cohere_core.specs.Acts.{is_built, AreBuilt, first_unbuilt};
 ghost use Rattle.cohere_core.specs.Bad.{IsRelationFile, IsRelationFault, IsBuiltScript, IsScriptFault, name_in};
 ghost use Rattle.cohere_core.specs.Form.{asked};

@@ -1,7 +1,7 @@
 -- Colourings of the ordered pairs of points (Higman, Coherent configurations I, 1975).
 use Rattle.std.specs.Prelude.{◌≡◌, ◌==◌, ◌&&◌, ℕ, ◌+◌, ◌*◌, ◌^◌, ◌<◌, ◌≤◌, List, length, count_by, slice_index, All}
 use Rattle.std.specs.List.{range_with_len}
-use Rattle.pair_colours.specs.declared.coloured_pairs.TheConstants.{MOST_POINTS}
+use Rattle.pair_colours.specs.declared.coloured_pairs.TheConstants.{MOST_POINTS, MOST_COLOUR}
 
 -- a colouring of the ordered pairs of the points 0 to size - 1: the colour of (x, y) stands at place x * size + y
 pub record PairColouring : Type 0 where
@@ -49,3 +49,8 @@ pub record FitsColouring (A : PairColouring) : Type 0 where
   pub colouring : IsColouring A
   pub limit : A.size ≤ MOST_POINTS
   pub numbers : All (λ colour. colour < 2 ^ 32) A.colours
+
+-- a colouring within the limits of points and of raw colours
+pub record IsRawColouring (A : PairColouring) : Type 0 where
+  pub fits : FitsColouring A
+  pub raw : All (λ colour. colour ≤ MOST_COLOUR) A.colours

@@ -3,7 +3,7 @@ use Rattle.std.proofs.Common.{◌≡◌, ◌==◌, ◌<◌, ◌≤◌, ◌+◌, 
 use Rattle.std.proofs.Math.Seq.{take-append-add}
 use Rattle.std.proofs.lemmas.List.{length-map, length-take, get_or-map, map-append, take-map}
 use Rattle.std.proofs.lemmas.List.Elements.{All-append, All-take}
-use Rattle.pair_colours.specs.Colouring.{PairColouring}
+use Rattle.pair_colours.specs.Colouring.{PairColouring, IsRawColouring}
 use Rattle.pair_colours.specs.Closure.{IsClosureOf}
 use Rattle.pair_colours.proofs.Places.{Refines-refl}
 use Rattle.recolour_bench.specs.declared.edits.Edit.{Edit}
@@ -12,7 +12,7 @@ use Rattle.recolour_bench.specs.declared.edits.EditFault.TheVariants.{HistoryFul
 use Rattle.recolour_bench.specs.declared.history.Kept.{Kept}
 use Rattle.recolour_bench.specs.declared.history.TheConstants.{MOST_POSITION}
 use Rattle.recolour_bench.specs.Recolouring.{edited}
-use Rattle.recolour_bench.specs.History.{History, IsRawColouring, no_entry, present}
+use Rattle.recolour_bench.specs.History.{History, no_entry, present}
 use Rattle.recolour_bench.specs.Steps.{first_fault, edit_tests, EditStep}
 use Rattle.recolour_bench.specs.Kept.{history_of, IsKeptHistory}
 use Rattle.recolour_bench.proofs.Stepping.{IsHistory-edited}

@@ -7,7 +7,7 @@ use Rattle.std.proofs.lemmas.List.FromFn.{get_or-range_with_len, length-range_wi
 use Rattle.std.proofs.lemmas.List.Sums.{prefix_len-le-length}
 use Rattle.std.proofs.lemmas.Nat.{mul-le}
 use Rattle.pair_colours.specs.declared.coloured_pairs.TheConstants.{MOST_COLOUR, MOST_POINTS}
-use Rattle.pair_colours.specs.Colouring.{PairColouring, colour_at, points}
+use Rattle.pair_colours.specs.Colouring.{PairColouring, colour_at, points, IsRawColouring}
 use Rattle.pair_colours.specs.Closure.{IsClosureOf}
 use Rattle.pair_colours.specs.Naming.{colours_met, name_of}
 use Rattle.pair_colours.proofs.Closures.{named_closure_exists, named_closure_is_unique}
@@ -20,7 +20,7 @@ use Rattle.recolour_bench.specs.declared.edits.EditFault.{EditFault}
 use Rattle.recolour_bench.specs.declared.edits.EditFault.TheVariants.{PointRange, ColourRange, ColourAbsent, HistoryFull, NothingToUndo, NothingToRedo}
 use Rattle.recolour_bench.specs.declared.history.TheConstants.{MOST_POSITION}
 use Rattle.recolour_bench.specs.Recolouring.{has_colour, is_pair, least_unused, recoloured, edited}
-use Rattle.recolour_bench.specs.History.{History, IsHistory, IsRawColouring, no_entry, present, started}
+use Rattle.recolour_bench.specs.History.{History, IsHistory, no_entry, present, started}
 use Rattle.recolour_bench.specs.Steps.{Act, edits, undoes, redoes, first_fault, pair_tests, colour_tests, edit_tests, edit_refusal, EditStep, UndoStep, RedoStep, Accepts, Refuses, Step}
 use Rattle.recolour_bench.proofs.Unused.{least_unused-le}
 

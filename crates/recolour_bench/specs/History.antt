@@ -1,18 +1,12 @@
 -- The colourings that a run of edits has made, and the one that is at hand.
 use Rattle.std.specs.Prelude.{ℕ, ◌+◌, ◌<◌, ◌≤◌, List, [], ◌∷◌, length, slice_index_or, All}
-use Rattle.pair_colours.specs.declared.coloured_pairs.TheConstants.{MOST_COLOUR}
-use Rattle.pair_colours.specs.Colouring.{PairColouring, FitsColouring}
+use Rattle.pair_colours.specs.Colouring.{PairColouring, IsRawColouring}
 use Rattle.recolour_bench.specs.declared.history.TheConstants.{MOST_POSITION}
 
 -- the colourings in the order in which they were made, and which of them is the present one
 pub record History : Type 0 where
   pub entries : List PairColouring
   pub position : ℕ
-
--- a colouring within the limits of points and of raw colours
-pub record IsRawColouring (A : PairColouring) : Type 0 where
-  pub fits : FitsColouring A
-  pub raw : All (λ colour. colour ≤ MOST_COLOUR) A.colours
 
 -- there is a present entry, the entries are no more than positions, and each is within the limits
 pub record IsHistory (h : History) : Type 0 where

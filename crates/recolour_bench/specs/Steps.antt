@@ -1,7 +1,7 @@
 -- The acts on a history: which are refused, and what the others make of it.
 use Rattle.std.specs.Prelude.{◌≡◌, ◌==◌, ◌++◌, ◌⊎◌, not, nat_lt, ℕ, ◌+◌, ◌<◌, Bool, List, [], ◌∷◌, take, length, if◌then◌else◌, Option, Some, None}
 use Rattle.pair_colours.specs.declared.coloured_pairs.TheConstants.{MOST_COLOUR}
-use Rattle.pair_colours.specs.Colouring.{PairColouring}
+use Rattle.pair_colours.specs.Colouring.{PairColouring, IsRawColouring}
 use Rattle.pair_colours.specs.Closure.{IsClosureOf}
 use Rattle.recolour_bench.specs.declared.edits.Edit.{Edit}
 use Rattle.recolour_bench.specs.declared.edits.Edit.TheVariants.{Set, Both, Fix, Join, Adopt}
@@ -9,7 +9,7 @@ use Rattle.recolour_bench.specs.declared.edits.EditFault.{EditFault}
 use Rattle.recolour_bench.specs.declared.edits.EditFault.TheVariants.{PointRange, ColourRange, ColourAbsent, HistoryFull, NothingToUndo, NothingToRedo}
 use Rattle.recolour_bench.specs.declared.history.TheConstants.{MOST_POSITION}
 use Rattle.recolour_bench.specs.Recolouring.{has_colour, edited, IsLeastUnused, least_unused}
-use Rattle.recolour_bench.specs.History.{History, IsHistory, IsRawColouring, present, started}
+use Rattle.recolour_bench.specs.History.{History, IsHistory, present, started}
 
 -- an edit, or a move to the entry before or after
 pub data Act : Type 0 where

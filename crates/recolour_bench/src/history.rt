@@ -1,10 +1,10 @@
 //! The history of a colouring under edits.
 
 ghost use Rattle.std.specs.Prelude.{◌≡◌, ◌≢◌, ◌+◌, ◌<◌, ◌≤◌, ◌↔◌, ◌++◌, [], ◌∷◌, All, IfOk, IfErr, OnOk, OnErr, IsErrOf, IsOkUnless, length, take, Option, Some};
-ghost use Rattle.pair_colours.specs.Colouring.{PairColouring, FitsColouring};
+ghost use Rattle.pair_colours.specs.Colouring.{PairColouring, FitsColouring, IsRawColouring};
 ghost use Rattle.pair_colours.specs.Closure.{IsClosureOf};
 ghost use Rattle.recolour_bench.specs.declared.edits.Edit.TheVariants.{Adopt};
-ghost use Rattle.recolour_bench.specs.History.{IsHistory, IsRawColouring, present, started};
+ghost use Rattle.recolour_bench.specs.History.{IsHistory, present, started};
 ghost use Rattle.recolour_bench.specs.Steps.{edits, undoes, redoes, refusal, Accepts, Step, UndoStep, RedoStep};
 
 use crate::edits::{Edit, EditFault};

@@ -6,7 +6,7 @@ use Rattle.std.proofs.lemmas.List.{get_or_default}
 use Rattle.std.proofs.lemmas.List.Elements.{All-from_get_or}
 use Rattle.std.proofs.lemmas.List.Folds.{list_any_at, Any-from_list_any}
 use Rattle.pair_colours.specs.Colouring.{PairColouring, IsColouring, IsColour, colour_at}
-use Rattle.pair_colours.specs.ColourSets.{is_in, IsColourSet, IsEdgeSet}
+use Rattle.pair_colours.specs.ColourSets.{is_in, IsColourSet, IsEdgeSet, ColourSetOrNot, EdgeSetOrNot}
 use Rattle.pair_colours.proofs.Places.{place_below}
 use Rattle.pair_colours.proofs.ListReads.{IsColour-at}
 use Rattle.pair_colours.proofs.Reaching.{all_below}
@@ -52,7 +52,7 @@ colour_or_not C h c = ⊎_elim
     (λ f. inr (λ u. both_ways (is_in C.colours c) f (is_in-colour C h c u)))
     (cases_Bool (is_in C.colours c))
 
-pub colour_set_or_not : (C : PairColouring) → IsColouring C → (set : List ℕ) → IsColourSet C set ⊎ ¬ IsColourSet C set
+pub colour_set_or_not : ColourSetOrNot
 colour_set_or_not C h set = ⊎_elim
     (λ all. inl (All-from_get_or (IsColour C) set 0 all))
     (λ not. inr (λ all. not (λ k l. all k 0 l)))
@@ -67,7 +67,7 @@ implies_or_not true true = inl (λ e. refl)
 implies_or_not true false = inr (λ h. let e : false ≡ true = h refl in cc)
 implies_or_not false b = inl (λ e. absurd cc)
 
-pub edge_set_or_not : (C : PairColouring) → IsColouring C → (set : List ℕ) → IsEdgeSet C set ⊎ ¬ IsEdgeSet C set
+pub edge_set_or_not : EdgeSetOrNot
 edge_set_or_not C is set =
     ⊎_elim
     (λ colours. ⊎_elim

@@ -8,3 +8,4 @@ pub mod Lists
 pub mod SideCodes
 pub mod ColourSets
 pub mod Tests
+pub mod Limits

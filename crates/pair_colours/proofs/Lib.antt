@@ -19,3 +19,7 @@ mod Writes
 pub mod Reaching
 pub mod SideCodes
 pub mod ColourSets
+mod ClosedSets
+pub mod SortedLists
+pub mod ThoseLemmas
+pub mod SubsetLemmas

@@ -1,11 +1,11 @@
 -- The closure of a colouring within the limits is within them.
-use Rattle.std.proofs.Common.{◌≡◌, ◌==◌, ℕ, ◌+◌, ◌*◌, ◌^◌, ◌<◌, ◌≤◌, not, get_or, All, subst, arith}
+use Rattle.std.proofs.Common.{◌==◌, ℕ, ◌≤◌, not, get_or, All, subst, arith}
 use Rattle.std.proofs.lemmas.List.Elements.{All-map}
 use Rattle.std.proofs.lemmas.List.Sums.{prefix_len-le-length}
 use Rattle.std.proofs.lemmas.Nat.{mul-le}
 use Rattle.pair_colours.specs.declared.coloured_pairs.TheConstants.{MOST_COLOUR, MOST_POINTS}
-use Rattle.pair_colours.specs.Colouring.{PairColouring, IsRawColouring}
-use Rattle.pair_colours.specs.Closure.{IsClosureOf, ClosureIsRaw}
+use Rattle.pair_colours.specs.Colouring.{PairColouring}
+use Rattle.pair_colours.specs.Closure.{ClosureIsRaw}
 use Rattle.pair_colours.specs.Naming.{colours_met, name_of}
 use Rattle.pair_colours.proofs.Few.{colours_met-le}
 use Rattle.pair_colours.proofs.NamePlaces.{name_of-position}

@@ -16,7 +16,9 @@ pub mod FirstPair
 mod Meets
 pub mod NumberedLists
 mod Writes
+mod SquareRows
 pub mod Reaching
+pub mod WalkPlaces
 pub mod SideCodes
 pub mod ColourSets
 mod ClosedSets

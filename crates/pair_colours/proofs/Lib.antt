@@ -17,3 +17,4 @@ pub mod Writes
 pub mod Reaching
 pub mod SideCodes
 pub mod ColourSets
+pub mod TestLemmas

@@ -25,3 +25,4 @@ mod ClosedSets
 pub mod SortedLists
 pub mod ThoseLemmas
 pub mod SubsetLemmas
+pub mod TestLemmas

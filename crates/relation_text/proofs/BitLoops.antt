@@ -111,8 +111,8 @@ EdgesTo-next bytes C size k j so_far hj =
 pub place_within : (size len k i j : ℕ) → k ≡ column_place i j → i < j → j < size → length (column_pairs size) ≤ 6 * len → k / 6 < len
 place_within size len k i j e h l enough = let at = (column_pairs-at size i j h l).0 in omega arith
 
-pub column_pairs-few : (size : ℕ) → size ≤ MOST_POINTS → length (column_pairs size) ≤ 8192
-column_pairs-few size h = let count = length-column_pairs size in let square : size * (size - 1) ≤ 128 * 128 = mul-le size (size - 1) 128 128 (omega arith) (omega arith) in omega arith
+pub column_pairs-few : (size : ℕ) → size ≤ MOST_POINTS → length (column_pairs size) ≤ MOST_POINTS * MOST_POINTS
+column_pairs-few size h = let count = length-column_pairs size in let square : size * (size - 1) ≤ MOST_POINTS * MOST_POINTS = mul-le size (size - 1) MOST_POINTS MOST_POINTS (omega arith) (omega arith) in omega arith
 
-pub place_small : (size k i j : ℕ) → size ≤ MOST_POINTS → k ≡ column_place i j → i < j → j < size → k < 8192
+pub place_small : (size k i j : ℕ) → size ≤ MOST_POINTS → k ≡ column_place i j → i < j → j < size → k < MOST_POINTS * MOST_POINTS
 place_small size k i j few e h l = let at = (column_pairs-at size i j h l).0 in let most = column_pairs-few size few in omega arith

@@ -6,13 +6,15 @@ use Rattle.std.proofs.lemmas.List.{get_or-drop, drop_at}
 use Rattle.std.proofs.lemmas.List.Elements.{All-append, All-from_get_or, All-get_or, All-same, All-weaker}
 use Rattle.std.proofs.lemmas.List.Folds.{list_any_none}
 use Rattle.text_lines.specs.Part.{Part}
+use Rattle.pair_colours.specs.Tests.{first_that_holds}
 use Rattle.pair_colours.specs.declared.coloured_pairs.TheConstants.{MOST_POINTS}
+use Rattle.pair_colours.proofs.TestLemmas.{AllFail-from_none, none-from_AllFail}
 use Rattle.relation_text.specs.declared.graph_format.GraphFormat.{GraphFormat}
 use Rattle.relation_text.specs.Bits.{size_bytes, size_len, bytes_for, bit_bytes, bit_in}
 use Rattle.relation_text.specs.Orders.{pairs_of}
 use Rattle.relation_text.specs.Relation.{IsBitText}
-use Rattle.relation_text.specs.Faults.{first_fault, byte_tests, graph_tests, is_graph_byte, is_long, long_size, size_of, bits_part}
-use Rattle.relation_text.proofs.TestLemmas.{AllFail-from_none, none-from_AllFail, list_any-false, list_any_range-false, list_any_range-none}
+use Rattle.relation_text.specs.Faults.{byte_tests, graph_tests, is_graph_byte, is_long, long_size, size_of, bits_part}
+use Rattle.relation_text.proofs.AnyLemmas.{list_any-false, list_any_range-false, list_any_range-none}
 use Rattle.relation_text.proofs.SizeLemmas.{graph_byte, from_graph_byte, length-size_bytes, size_of-size_bytes, size_bytes-printable, size_bytes-short, size_bytes-long, size_bytes-size_of_short, size_bytes-size_of_long, size_len-long}
 use Rattle.relation_text.proofs.BitLemmas.{HoldsBits, length-bit_bytes, HoldsBits-bit_bytes, bits_in, length-bits_in, bit_bytes-bits_in}
 
@@ -33,7 +35,7 @@ pub record IsGraphBody (format : GraphFormat) (bytes : List ℕ) : Type 0 where
   pub padding : (k : ℕ) → count_of format (size_of bytes) ≤ k → k < 6 * bytes_for (count_of format (size_of bytes)) → bit_in (bits_part bytes) k ≡ false
 
 -- where no test of the bytes holds, each is at least 63
-pub from_byte_tests : (body : Part) → first_fault (byte_tests body) ≡ None → All (λ b. 63 ≤ b) body.bytes
+pub from_byte_tests : (body : Part) → first_that_holds (byte_tests body) ≡ None → All (λ b. 63 ≤ b) body.bytes
 from_byte_tests body e = All-from_get_or (λ b. 63 ≤ b) body.bytes 0 (λ k h.
     (from_graph_byte (get_or body.bytes k 0) (not-false (is_graph_byte (get_or body.bytes k 0)) (list_any-false (λ b. not (is_graph_byte b)) body.bytes k 0 (AllFail-from_none (byte_tests body) e).1.0 h))).0)
 
@@ -41,7 +43,7 @@ second_false : (a b : Bool) → (a && b) ≡ false → a ≡ true → b ≡ fals
 second_false true b e f = e
 second_false false b e f = absurd (false≢true f)
 
-pub body-from_none : (format : GraphFormat) (body : Part) → first_fault (graph_tests format body) ≡ None → IsGraphBody format body.bytes
+pub body-from_none : (format : GraphFormat) (body : Part) → first_that_holds (graph_tests format body) ≡ None → IsGraphBody format body.bytes
 body-from_none format body e =
     let bytes = body.bytes in
     let long : get_or bytes 0 0 ≡ 126 → is_long bytes ≡ true = λ l. eq-eqb (get_or bytes 0 0) 126 l in
@@ -65,7 +67,7 @@ on_long bytes t f = elim (cases_Bool (is_long bytes)) [
   | inr is ↦ and_left (is_long bytes) t is
 ]
 
-pub none-from_body : (format : GraphFormat) (body : Part) → IsGraphBody format body.bytes → first_fault (graph_tests format body) ≡ None
+pub none-from_body : (format : GraphFormat) (body : Part) → IsGraphBody format body.bytes → first_that_holds (graph_tests format body) ≡ None
 none-from_body format body good =
     let bytes = body.bytes in
     let count = count_of format (size_of bytes) in
@@ -201,12 +203,12 @@ body-from_IsBitText format bytes n bits size encoded =
     })
 
 -- the bytes after the size of a good line
-pub bits_printable : (format : GraphFormat) (body : Part) (part : List ℕ) → first_fault (graph_tests format body) ≡ None → part ≡ bits_part body.bytes → All (λ b. 63 ≤ b) part
+pub bits_printable : (format : GraphFormat) (body : Part) (part : List ℕ) → first_that_holds (graph_tests format body) ≡ None → part ≡ bits_part body.bytes → All (λ b. 63 ≤ b) part
 bits_printable format body part none e =
     let holds = HoldsBits-from_body format body.bytes (body-from_none format body none) in
     All-same (λ b. 63 ≤ b) part (bits_part body.bytes) e (All-from_get_or (λ b. 63 ≤ b) (bits_part body.bytes) 0 holds.above)
 
-pub bits_enough : (format : GraphFormat) (body : Part) (part : List ℕ) → first_fault (graph_tests format body) ≡ None → part ≡ bits_part body.bytes → count_of format (size_of body.bytes) ≤ 6 * length part
+pub bits_enough : (format : GraphFormat) (body : Part) (part : List ℕ) → first_that_holds (graph_tests format body) ≡ None → part ≡ bits_part body.bytes → count_of format (size_of body.bytes) ≤ 6 * length part
 bits_enough format body part none e =
     let holds = HoldsBits-from_body format body.bytes (body-from_none format body none) in
     let len = holds.bytes_len in

@@ -1,20 +1,21 @@
-pub mod BitLemmas
-pub mod TestLemmas
-pub mod SizeLemmas
-pub mod GraphBodies
-pub mod OrderLemmas
-pub mod SameColours
-pub mod GraphReadings
-pub mod MatrixRows
-pub mod MatrixReadings
-pub mod Readings
-pub mod BitLoops
-pub mod RowLoops
-pub mod ColourDigits
-pub mod ChosenLines
-pub mod MatrixLoops
-pub mod BitWrites
-pub mod PairWrites
+pub mod LawProofs
 pub mod RowWrites
-pub mod ReadBack
-pub mod RawColours
+mod BitLemmas
+mod AnyLemmas
+mod SizeLemmas
+mod GraphBodies
+mod OrderLemmas
+mod SameColours
+mod GraphReadings
+mod MatrixRows
+mod MatrixReadings
+mod Readings
+mod BitLoops
+mod RowLoops
+mod ColourDigits
+mod ChosenLines
+mod MatrixLoops
+mod BitWrites
+mod PairWrites
+mod ReadBack
+mod RawColours

@@ -2,22 +2,24 @@
 use Rattle.std.proofs.Common.{◌≡◌, ◌≢◌, ℕ, suc, ◌+◌, ◌-◌, ◌<◌, ◌≤◌, ◌^◌, List, [], ◌∷◌, ◌++◌, length, drop, get_or, Option, Some, None, refl, sym, ap, ◌∙◌, arith, inl, inr, length-drop, add-zero}
 use Rattle.std.specs.Prelude.{All, slice_get}
 use Rattle.std.specs.List.{flat_map, range_with_len}
+use Rattle.std.specs.Option.{option_or}
 use Rattle.std.proofs.lemmas.Bool.{cases_lt}
 use Rattle.std.proofs.lemmas.List.{drop-drop, get_or-drop}
 use Rattle.std.proofs.lemmas.List.Elements.{All-head, All-rest, All-same}
 use Rattle.std.proofs.lemmas.Option.{slice_get_past, slice_get-get_or}
 use Rattle.text_lines.specs.Part.{Part}
 use Rattle.pair_colours.specs.Colouring.{PairColouring, IsColouring, colour_at, points}
+use Rattle.pair_colours.specs.Tests.{first_that_holds}
+use Rattle.pair_colours.proofs.TestLemmas.{first_that_holds-append}
 use Rattle.relation_text.specs.declared.faults.RelationWord.{RelationWord}
 use Rattle.relation_text.specs.declared.faults.RelationWord.TheVariants.{MatrixCount}
 use Rattle.relation_text.specs.Lines.{end_of}
-use Rattle.relation_text.specs.Faults.{first_fault, row_tests, head_tests, matrix_tests}
+use Rattle.relation_text.specs.Faults.{row_tests, head_tests, matrix_tests}
 use Rattle.relation_text.specs.LineColours.{no_part, cell_of, cell, size_in}
-use Rattle.relation_text.proofs.TestLemmas.{first_fault-append_none, first_fault-append_some}
 
 -- the first fault of the rows from row x on
 abbrev pub rows_fault : ℕ → ℕ → List Part → ℕ → Option (RelationWord × ℕ)
-rows_fault len n rows x = first_fault (flat_map (λ u. row_tests len n (slice_get rows u)) (range_with_len x (n - x)))
+rows_fault len n rows x = first_that_holds (flat_map (λ u. row_tests len n (slice_get rows u)) (range_with_len x (n - x)))
 
 -- x rows are read, and `left` are left
 pub record ReadsRows (len n : ℕ) (rows : List Part) (C : PairColouring) (x : ℕ) (left : List Part) : Type 0 where
@@ -33,14 +35,14 @@ ReadsRows-none len n rows C colouring within points = record { colouring = colou
 
 -- the tests of row x come first of those that are left
 rows_fault-first : (len n : ℕ) (rows : List Part) (x : ℕ) → x < n → rows_fault len n rows x
-    ≡ first_fault (row_tests len n (slice_get rows x) ++ flat_map (λ u. row_tests len n (slice_get rows u)) (range_with_len (x + 1) (n - (x + 1))))
-rows_fault-first len n rows x h = let more : n - x ≡ suc (n - (x + 1)) = omega arith in ap (λ m. first_fault (flat_map (λ u. row_tests len n (slice_get rows u)) (range_with_len x m))) more
+    ≡ first_that_holds (row_tests len n (slice_get rows x) ++ flat_map (λ u. row_tests len n (slice_get rows u)) (range_with_len (x + 1) (n - (x + 1))))
+rows_fault-first len n rows x h = let more : n - x ≡ suc (n - (x + 1)) = omega arith in ap (λ m. first_that_holds (flat_map (λ u. row_tests len n (slice_get rows u)) (range_with_len x m))) more
 
 -- there is no such row
 pub rows_fault-few : (len n : ℕ) (rows : List Part) (C : PairColouring) (x : ℕ) (left : List Part) → ReadsRows len n rows C x left → left ≡ [] → x < n → rows_fault len n rows 0 ≡ Some (MatrixCount, len)
 rows_fault-few len n rows C x left so_far e h =
     let past : length rows ≤ x = omega (arith, ap length (sym so_far.rest ∙ e), length-drop x rows) in
-    so_far.tests ∙ rows_fault-first len n rows x h ∙ ap (λ o. first_fault (row_tests len n o ++ flat_map (λ u. row_tests len n (slice_get rows u)) (range_with_len (x + 1) (n - (x + 1))))) (slice_get_past rows x past)
+    so_far.tests ∙ rows_fault-first len n rows x h ∙ ap (λ o. first_that_holds (row_tests len n o ++ flat_map (λ u. row_tests len n (slice_get rows u)) (range_with_len (x + 1) (n - (x + 1))))) (slice_get_past rows x past)
 
 -- the first of the rows that are left
 pub record HasRow (rows : List Part) (x : ℕ) (row : Part) : Type 0 where
@@ -61,16 +63,16 @@ has_row len n rows C x left more row so_far e =
 
 -- that row has a fault
 pub rows_fault-here : (len n : ℕ) (rows : List Part) (C : PairColouring) (x : ℕ) (left more : List Part) (row : Part) (fault : RelationWord × ℕ) → ReadsRows len n rows C x left → left ≡ row ∷ more → x < n
-    → Some fault ≡ first_fault (row_tests 0 n (Some row)) → rows_fault len n rows 0 ≡ Some fault
+    → Some fault ≡ first_that_holds (row_tests 0 n (Some row)) → rows_fault len n rows 0 ≡ Some fault
 rows_fault-here len n rows C x left more row fault so_far e h is =
     let has = has_row len n rows C x left more row so_far e in
     let later = flat_map (λ u. row_tests len n (slice_get rows u)) (range_with_len (x + 1) (n - (x + 1))) in
-    so_far.tests ∙ rows_fault-first len n rows x h ∙ ap (λ o. first_fault (row_tests len n o ++ later)) has.at
-    ∙ first_fault-append_some (row_tests len n (Some row)) later fault (sym is)
+    so_far.tests ∙ rows_fault-first len n rows x h ∙ ap (λ o. first_that_holds (row_tests len n o ++ later)) has.at
+    ∙ first_that_holds-append (row_tests len n (Some row)) later ∙ ap (λ o. option_or o (first_that_holds later)) (sym is)
 
 -- that row is read
 pub ReadsRows-more : (len n : ℕ) (rows : List Part) (C D : PairColouring) (x : ℕ) (left more : List Part) (row : Part) → ReadsRows len n rows C x left → left ≡ row ∷ more → x < n
-    → first_fault (row_tests 0 n (Some row)) ≡ None → IsColouring D → D.size ≡ n → ((v : ℕ) → v < n → colour_at D x v ≡ cell_of row v)
+    → first_that_holds (row_tests 0 n (Some row)) ≡ None → IsColouring D → D.size ≡ n → ((v : ℕ) → v < n → colour_at D x v ≡ cell_of row v)
     → ((u v : ℕ) → u < n → v < n → u ≢ x → colour_at D u v ≡ colour_at C u v) → ReadsRows len n rows D (x + 1) more
 ReadsRows-more len n rows C D x left more row so_far e h none colouring points here others =
     let has = has_row len n rows C x left more row so_far e in
@@ -78,7 +80,8 @@ ReadsRows-more len n rows C D x left more row so_far e h none colouring points h
     record {
       colouring = colouring;
       rest = ap (drop 1) (sym e ∙ so_far.rest) ∙ drop-drop 1 x rows;
-      tests = so_far.tests ∙ rows_fault-first len n rows x h ∙ ap (λ o. first_fault (row_tests len n o ++ later)) has.at ∙ first_fault-append_none (row_tests len n (Some row)) later none;
+      tests = so_far.tests ∙ rows_fault-first len n rows x h ∙ ap (λ o. first_that_holds (row_tests len n o ++ later)) has.at ∙ first_that_holds-append (row_tests len n (Some row)) later
+          ∙ ap (λ o. option_or o (first_that_holds later)) none;
       within = All-rest (λ p. end_of p < 2 ^ 31) row more left e so_far.within;
       points = points;
       cells = λ u v a b. elim (cases_lt u x) [
@@ -87,9 +90,10 @@ ReadsRows-more len n rows C D x left more row so_far e h none colouring points h
       ];
     }
 
-pub matrix_fault-rows : (len : ℕ) (head : Part) (rows : List Part) (n : ℕ) → first_fault (head_tests head) ≡ None → n ≡ size_in head → first_fault (matrix_tests len head rows) ≡ rows_fault len n rows 0
+pub matrix_fault-rows : (len : ℕ) (head : Part) (rows : List Part) (n : ℕ) → first_that_holds (head_tests head) ≡ None → n ≡ size_in head → first_that_holds (matrix_tests len head rows) ≡ rows_fault len n rows 0
 matrix_fault-rows len head rows n none size =
     let whole : n ≡ n - 0 = omega arith in
-    first_fault-append_none (head_tests head) (flat_map (λ x. row_tests len (size_in head) (slice_get rows x)) (points (size_in head))) none
-    ∙ ap (λ m. first_fault (flat_map (λ x. row_tests len m (slice_get rows x)) (points m))) (sym size)
-    ∙ ap (λ m. first_fault (flat_map (λ x. row_tests len n (slice_get rows x)) (points m))) whole
+    let behind = flat_map (λ x. row_tests len (size_in head) (slice_get rows x)) (points (size_in head)) in
+    first_that_holds-append (head_tests head) behind ∙ ap (λ o. option_or o (first_that_holds behind)) none
+    ∙ ap (λ m. first_that_holds (flat_map (λ x. row_tests len m (slice_get rows x)) (points m))) (sym size)
+    ∙ ap (λ m. first_that_holds (flat_map (λ x. row_tests len n (slice_get rows x)) (points m))) whole

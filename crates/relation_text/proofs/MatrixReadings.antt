@@ -12,14 +12,15 @@ use Rattle.text_lines.specs.Words.{words_of}
 use Rattle.text_lines.specs.Number.{number_of}
 use Rattle.text_lines.proofs.Numbers.{number_of-form, form-number_of, IsNumberForm-unique}
 use Rattle.pair_colours.specs.Colouring.{PairColouring, colour_at, points}
+use Rattle.pair_colours.specs.Tests.{first_that_holds}
 use Rattle.pair_colours.specs.declared.coloured_pairs.TheConstants.{MOST_POINTS}
+use Rattle.pair_colours.proofs.TestLemmas.{AllFail, AllFail-append, AllFail-parts, AllFail-from_none, none-from_AllFail}
 use Rattle.relation_text.specs.Relation.{IsMatrix}
 use Rattle.relation_text.specs.LineColours.{no_part, cell, size_in}
-use Rattle.relation_text.specs.Faults.{Test, first_fault, row_tests, head_word, head_tests, matrix_tests}
-use Rattle.relation_text.proofs.TestLemmas.{AllFail, AllFail-from_none, none-from_AllFail}
+use Rattle.relation_text.specs.Faults.{Test, row_tests, head_word, head_tests, matrix_tests}
 use Rattle.relation_text.proofs.GraphBodies.{IsSize}
 use Rattle.relation_text.proofs.SameColours.{SameColours}
-use Rattle.relation_text.proofs.MatrixRows.{AllFail-append, AllFail-parts, IsGoodRow, row-from_fails, fails-from_row, length-words, good_number, row-from_matrix}
+use Rattle.relation_text.proofs.MatrixRows.{IsGoodRow, row-from_fails, fails-from_row, length-words, good_number, row-from_matrix}
 
 -- tests for each number of a range
 each_fails : (f : ℕ → List Test) (a n : ℕ) → AllFail (flat_map f (range_with_len a n)) → (x : ℕ) → a ≤ x → x < a + n → AllFail (f x)
@@ -49,7 +50,7 @@ row_there : (len n : ℕ) (o : Option Part) → AllFail (row_tests len n o) → 
 row_there len n None fails = absurd (false≢true (sym fails.0))
 row_there len n (Some row) fails = (row, refl, row-from_fails len n row fails)
 
-pub matrix-from_none : (len : ℕ) (head : Part) (rows : List Part) → first_fault (matrix_tests len head rows) ≡ None → IsGoodMatrix head rows (size_in head)
+pub matrix-from_none : (len : ℕ) (head : Part) (rows : List Part) → first_that_holds (matrix_tests len head rows) ≡ None → IsGoodMatrix head rows (size_in head)
 matrix-from_none len head rows e =
     let n = size_in head in
     let parts = AllFail-parts (head_tests head) (flat_map (λ x. row_tests len n (slice_get rows x)) (points n)) (AllFail-from_none (matrix_tests len head rows) e) in
@@ -59,7 +60,7 @@ matrix-from_none len head rows e =
       row_at = λ x h. row_there len n (slice_get rows x) (each_fails (λ y. row_tests len n (slice_get rows y)) 0 n parts.1 x (omega arith) (omega arith));
     }
 
-pub none-from_matrix : (len : ℕ) (head : Part) (rows : List Part) (n : ℕ) → IsGoodMatrix head rows n → first_fault (matrix_tests len head rows) ≡ None
+pub none-from_matrix : (len : ℕ) (head : Part) (rows : List Part) (n : ℕ) → IsGoodMatrix head rows n → first_that_holds (matrix_tests len head rows) ≡ None
 none-from_matrix len head rows n good =
     let o = number_of (head_word head).bytes in
     let is : size_in head ≡ n = ap (λ p. unwrap_or p 0) good.number in

@@ -1,5 +1,5 @@
 -- A row of a matrix: where no test holds, its words are the numbers of the row, and only there.
-use Rattle.std.proofs.Common.{◌≡◌, ℕ, zero, suc, ◌+◌, ◌<◌, ◌≤◌, true, false, ltb, List, [], ◌∷◌, ◌++◌, length, get_or, Some, refl, ap, subst, ◌∙◌, arith, inl, inr}
+use Rattle.std.proofs.Common.{◌≡◌, ℕ, zero, suc, ◌+◌, ◌<◌, ◌≤◌, true, false, ltb, List, [], ◌∷◌, length, get_or, Some, refl, ap, subst, ◌∙◌, arith, inl, inr}
 use Rattle.std.specs.Prelude.{All, not, slice_get}
 use Rattle.std.specs.List.{flat_map, enumerate_from}
 use Rattle.std.specs.Char.{is_ascii_digit}
@@ -17,20 +17,12 @@ use Rattle.text_lines.proofs.Numbers.{digit_numerals, IsNumberForm-from_digits, 
 use Rattle.text_lines.proofs.WordBytes.{words_from-bytes, words_from-some, bytes-words_from}
 use Rattle.pair_colours.specs.Colouring.{PairColouring, colour_at}
 use Rattle.pair_colours.specs.declared.coloured_pairs.TheConstants.{MOST_COLOUR}
+use Rattle.pair_colours.proofs.TestLemmas.{AllFail, AllFail-append, AllFail-parts}
 use Rattle.relation_text.specs.declared.faults.RelationWord.TheVariants.{MatrixCount}
 use Rattle.relation_text.specs.Lines.{end_of}
 use Rattle.relation_text.specs.Relation.{IsMatrixRow}
 use Rattle.relation_text.specs.Faults.{Test, number_tests, row_tests, is_row_byte}
-use Rattle.relation_text.proofs.TestLemmas.{AllFail, list_any-false}
-
--- the tests of two lists
-pub AllFail-append : (xs ys : List Test) → AllFail xs → AllFail ys → AllFail (xs ++ ys)
-AllFail-append [] ys a b = b
-AllFail-append (x ∷ xs) ys a b = (a.0, AllFail-append xs ys a.1 b)
-
-pub AllFail-parts : (xs ys : List Test) → AllFail (xs ++ ys) → AllFail xs × AllFail ys
-AllFail-parts [] ys a = (tt, a)
-AllFail-parts (x ∷ xs) ys a = let rest = AllFail-parts xs ys a.1 in ((a.0, rest.0), rest.1)
+use Rattle.relation_text.proofs.AnyLemmas.{list_any-false}
 
 -- a word of a row of n numbers, at its place in the row
 pub record IsGoodWord (n y : ℕ) (word : Part) : Type 0 where
@@ -71,7 +63,7 @@ pub record IsGoodRow (n : ℕ) (row : Part) : Type 0 where
 
 pub row-from_fails : (len n : ℕ) (row : Part) → AllFail (row_tests len n (Some row)) → IsGoodRow n row
 row-from_fails len n row fails =
-    let parts = AllFail-parts (words_tests n 0 (words_of row)) ((ltb (length (words_of row)) n, MatrixCount, end_of row) ∷ []) fails.1 in
+    let parts = AllFail-parts (words_tests n 0 (words_of row)) ((ltb (length (words_of row)) n, (MatrixCount, end_of row)) ∷ []) fails.1 in
     record {
       row_bytes = All-from_get_or (λ b. is_row_byte b ≡ true) row.bytes 0 (λ k h. not-false (is_row_byte (get_or row.bytes k 0)) (list_any-false (λ b. not (is_row_byte b)) row.bytes k 0 fails.0 h));
       words = λ k word e. let there : 0 + k ≡ k = omega arith in subst (λ (i : ℕ). IsGoodWord n i word) there (good_words n 0 (words_of row) parts.0 k word e);
@@ -81,7 +73,7 @@ row-from_fails len n row fails =
 pub fails-from_row : (len n : ℕ) (row : Part) → IsGoodRow n row → AllFail (row_tests len n (Some row))
 fails-from_row len n row good = (
   list_any_none (λ b. not (is_row_byte b)) row.bytes (All-weaker (λ b. is_row_byte b ≡ true) (λ b. not (is_row_byte b) ≡ false) (λ b. not_from_true (is_row_byte b)) row.bytes good.row_bytes),
-  AllFail-append (words_tests n 0 (words_of row)) ((ltb (length (words_of row)) n, MatrixCount, end_of row) ∷ [])
+  AllFail-append (words_tests n 0 (words_of row)) ((ltb (length (words_of row)) n, (MatrixCount, end_of row)) ∷ [])
       (words_fail n 0 (words_of row) (λ k word e. let there : k ≡ 0 + k = omega arith in subst (λ (i : ℕ). IsGoodWord n i word) there (good.words k word e)))
       (le-ltb (length (words_of row)) n good.enough, tt),
 )

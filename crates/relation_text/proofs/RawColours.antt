@@ -5,7 +5,7 @@ use Rattle.std.proofs.lemmas.Result.{IfOk-weaker}
 use Rattle.std.proofs.lemmas.Option.{slice_get-get_or}
 use Rattle.std.proofs.lemmas.List.Elements.{All-from_get_or}
 use Rattle.text_lines.specs.Part.{Part}
-use Rattle.pair_colours.specs.Colouring.{PairColouring, colour_at}
+use Rattle.pair_colours.specs.Colouring.{PairColouring, IsRawColouring, colour_at}
 use Rattle.pair_colours.specs.declared.coloured_pairs.TheConstants.{MOST_COLOUR}
 use Rattle.pair_colours.proofs.Places.{at_place, row_below, column_below}
 use Rattle.relation_text.specs.Relation.{IsRelation, IsRelationText, pair_colour, bit_at}
@@ -37,6 +37,15 @@ raw_colours text line C h = All-from_get_or (λ colour. colour ≤ MOST_COLOUR) 
         let inside : p < C.size * C.size = subst (λ (n : ℕ). p < n) h.colouring.has_pairs l in
         subst (λ (c : ℕ). c ≤ MOST_COLOUR) (at_place C p)
         (small_pair h.chosen h.rows C h.relation (p / C.size) (p % C.size) (row_below C.size p h.colouring.has_points inside) (column_below C.size p h.colouring.has_points))
+
+-- so it is a raw colouring
+pub reading_is_raw : (text : List ℕ) (line : ℕ) (C : PairColouring) → IsRelationText text line C → IsRawColouring C
+reading_is_raw text line C h =
+    let raw = raw_colours text line C h in
+    record {
+      fits = record { colouring = h.colouring; limit = h.limit; numbers = λ k d l. omega (arith, raw k d l) };
+      raw = raw;
+    }
 
 pub raw-read : {E : Type 0} (text : List ℕ) (line : ℕ) (result : Result PairColouring E) → IfOk result (IsRelationText text line) → IfOk result (λ C. All (λ colour. colour ≤ MOST_COLOUR) C.colours)
 raw-read text line result read = IfOk-weaker result (IsRelationText text line) (λ C. All (λ colour. colour ≤ MOST_COLOUR) C.colours) (raw_colours text line) read

@@ -8,6 +8,7 @@ use Rattle.std.proofs.lemmas.Option.{none-some}
 use Rattle.std.proofs.lemmas.Slice.Eq.{starts_is}
 use Rattle.text_lines.specs.Part.{Part}
 use Rattle.pair_colours.specs.Colouring.{PairColouring, IsColouring, colour_at}
+use Rattle.pair_colours.specs.Tests.{first_that_holds}
 use Rattle.pair_colours.proofs.Exists.{by_pairs, colour_at-by_pairs, IsColouring-by_pairs}
 use Rattle.relation_text.specs.declared.faults.RelationWord.{RelationWord}
 use Rattle.relation_text.specs.declared.graph_format.GraphFormat.{GraphFormat}
@@ -18,7 +19,7 @@ use Rattle.relation_text.specs.Orders.{row_pairs, column_place}
 use Rattle.relation_text.specs.Lines.{lines_at, part_after}
 use Rattle.relation_text.specs.Relation.{IsRelationText, IsRelation, graph, digraph, matrix, IsGraphLine, IsBitText, pair_colour, bit_at}
 use Rattle.relation_text.specs.LineColours.{size_in, cell, HasEdges, HasArcs}
-use Rattle.relation_text.specs.Faults.{first_fault, graph_tests, matrix_tests, relation_tests, relation_fault, size_of, bits_part}
+use Rattle.relation_text.specs.Faults.{graph_tests, matrix_tests, relation_tests, relation_fault, size_of, bits_part}
 use Rattle.relation_text.proofs.GraphBodies.{IsSize, IsGraphBody, body-from_none, none-from_body, IsSize-from_body, IsBitText-from_body, body-from_IsBitText, bits_of, count_of, at_byte}
 use Rattle.relation_text.proofs.GraphReadings.{edge_colour, edge_bit-below, edge_bit-above, edge_bit-diagonal, IsGraphLine-from_colours, IsDigraphLine-from_colours, same_graphs, same_digraphs}
 use Rattle.relation_text.proofs.BitLemmas.{bit_at-bits_in}
@@ -40,21 +41,35 @@ abbrev is_digraph : Part → Bool
 is_digraph chosen = starts_with nat_eq chosen.bytes (codes "&")
 
 -- the tests by the form of the line
-pub tests-matrix : (len : ℕ) (chosen : Part) (rows : List Part) → is_matrix chosen ≡ true → first_fault (relation_tests len (chosen ∷ rows)) ≡ first_fault (matrix_tests len chosen rows)
-tests-matrix len chosen rows e = ap (λ b. first_fault (cond b (matrix_tests len chosen rows) (cond (is_digraph chosen) (graph_tests Digraph (part_after 1 chosen)) (graph_tests Graph chosen)))) e
+pub tests-matrix : (len : ℕ) (chosen : Part) (rows : List Part) → is_matrix chosen ≡ true → first_that_holds (relation_tests len (chosen ∷ rows)) ≡ first_that_holds (matrix_tests len chosen rows)
+tests-matrix len chosen rows e = ap (λ b. first_that_holds (cond b (matrix_tests len chosen rows) (cond (is_digraph chosen) (graph_tests Digraph (part_after 1 chosen)) (graph_tests Graph chosen)))) e
 
-pub tests-digraph : (len : ℕ) (chosen : Part) (rows : List Part) → is_matrix chosen ≡ false → is_digraph chosen ≡ true → first_fault (relation_tests len (chosen ∷ rows)) ≡ first_fault (graph_tests Digraph (part_after 1 chosen))
+pub tests-digraph : (len : ℕ) (chosen : Part) (rows : List Part) → is_matrix chosen ≡ false → is_digraph chosen ≡ true → first_that_holds (relation_tests len (chosen ∷ rows)) ≡ first_that_holds (graph_tests Digraph (part_after 1 chosen))
 tests-digraph len chosen rows e f =
-    ap (λ b. first_fault (cond b (matrix_tests len chosen rows) (cond (is_digraph chosen) (graph_tests Digraph (part_after 1 chosen)) (graph_tests Graph chosen)))) e
-    ∙ ap (λ b. first_fault (cond b (graph_tests Digraph (part_after 1 chosen)) (graph_tests Graph chosen))) f
+    ap (λ b. first_that_holds (cond b (matrix_tests len chosen rows) (cond (is_digraph chosen) (graph_tests Digraph (part_after 1 chosen)) (graph_tests Graph chosen)))) e
+    ∙ ap (λ b. first_that_holds (cond b (graph_tests Digraph (part_after 1 chosen)) (graph_tests Graph chosen))) f
 
-pub tests-graph : (len : ℕ) (chosen : Part) (rows : List Part) → is_matrix chosen ≡ false → is_digraph chosen ≡ false → first_fault (relation_tests len (chosen ∷ rows)) ≡ first_fault (graph_tests Graph chosen)
+pub tests-graph : (len : ℕ) (chosen : Part) (rows : List Part) → is_matrix chosen ≡ false → is_digraph chosen ≡ false → first_that_holds (relation_tests len (chosen ∷ rows)) ≡ first_that_holds (graph_tests Graph chosen)
 tests-graph len chosen rows e f =
-    ap (λ b. first_fault (cond b (matrix_tests len chosen rows) (cond (is_digraph chosen) (graph_tests Digraph (part_after 1 chosen)) (graph_tests Graph chosen)))) e
-    ∙ ap (λ b. first_fault (cond b (graph_tests Digraph (part_after 1 chosen)) (graph_tests Graph chosen))) f
+    ap (λ b. first_that_holds (cond b (matrix_tests len chosen rows) (cond (is_digraph chosen) (graph_tests Digraph (part_after 1 chosen)) (graph_tests Graph chosen)))) e
+    ∙ ap (λ b. first_that_holds (cond b (graph_tests Digraph (part_after 1 chosen)) (graph_tests Graph chosen))) f
+
+-- so the fault of the text is the first of its line
+pub fault-matrix : (text : List ℕ) (line : ℕ) (chosen : Part) (rows : List Part) → lines_at text line ≡ chosen ∷ rows → true ≡ is_matrix chosen
+    → relation_fault text line ≡ first_that_holds (matrix_tests (length text) chosen rows)
+fault-matrix text line chosen rows lines head = ap (λ ls. first_that_holds (relation_tests (length text) ls)) lines ∙ tests-matrix (length text) chosen rows (sym head)
+
+pub fault-digraph : (text : List ℕ) (line : ℕ) (chosen body : Part) (rows : List Part) → lines_at text line ≡ chosen ∷ rows → false ≡ is_matrix chosen → true ≡ is_digraph chosen → body ≡ part_after 1 chosen
+    → relation_fault text line ≡ first_that_holds (graph_tests Digraph body)
+fault-digraph text line chosen body rows lines other ampersand is =
+    ap (λ ls. first_that_holds (relation_tests (length text) ls)) lines ∙ tests-digraph (length text) chosen rows (sym other) (sym ampersand) ∙ ap (λ p. first_that_holds (graph_tests Digraph p)) (sym is)
+
+pub fault-graph : (text : List ℕ) (line : ℕ) (chosen : Part) (rows : List Part) → lines_at text line ≡ chosen ∷ rows → false ≡ is_matrix chosen → false ≡ is_digraph chosen
+    → relation_fault text line ≡ first_that_holds (graph_tests Graph chosen)
+fault-graph text line chosen rows lines other plain = ap (λ ls. first_that_holds (relation_tests (length text) ls)) lines ∙ tests-graph (length text) chosen rows (sym other) (sym plain)
 
 -- a colouring of the right colours is a reading of a line without a fault
-pub graph_reading : (text : List ℕ) (line : ℕ) (chosen : Part) (rows : List Part) (C : PairColouring) → lines_at text line ≡ chosen ∷ rows → first_fault (graph_tests Graph chosen) ≡ None
+pub graph_reading : (text : List ℕ) (line : ℕ) (chosen : Part) (rows : List Part) (C : PairColouring) → lines_at text line ≡ chosen ∷ rows → first_that_holds (graph_tests Graph chosen) ≡ None
     → IsColouring C → C.size ≡ size_of chosen.bytes → ((x y : ℕ) → x < C.size → y < C.size → colour_at C x y ≡ edge_colour (bits_of Graph chosen.bytes) x y) → IsRelationText text line C
 graph_reading text line chosen rows C lines none colouring size colours =
     let good = body-from_none Graph chosen none in
@@ -69,7 +84,7 @@ graph_reading text line chosen rows C lines none colouring size colours =
       relation = graph (IsGraphLine-from_colours chosen.bytes C (bits_of Graph chosen.bytes) (rw size (IsBitText-from_body Graph chosen.bytes good)) colours);
     }
 
-pub digraph_reading : (text : List ℕ) (line : ℕ) (chosen : Part) (rows : List Part) (C : PairColouring) → lines_at text line ≡ chosen ∷ rows → is_digraph chosen ≡ true → first_fault (graph_tests Digraph (part_after 1 chosen)) ≡ None
+pub digraph_reading : (text : List ℕ) (line : ℕ) (chosen : Part) (rows : List Part) (C : PairColouring) → lines_at text line ≡ chosen ∷ rows → is_digraph chosen ≡ true → first_that_holds (graph_tests Digraph (part_after 1 chosen)) ≡ None
     → IsColouring C → C.size ≡ size_of (drop 1 chosen.bytes) → ((x y : ℕ) → x < C.size → y < C.size → colour_at C x y ≡ pair_colour x y (bit_at (bits_of Digraph (drop 1 chosen.bytes)) (x * C.size + y))) → IsRelationText text line C
 digraph_reading text line chosen rows C lines ampersand none colouring size colours =
     let body = drop 1 chosen.bytes in
@@ -85,7 +100,7 @@ digraph_reading text line chosen rows C lines ampersand none colouring size colo
       relation = digraph (IsDigraphLine-from_colours chosen.bytes body C (bits_of Digraph body) (begins chosen.bytes (codes "&") ampersand) (rw size (IsBitText-from_body Digraph body good)) colours);
     }
 
-pub matrix_reading : (text : List ℕ) (line : ℕ) (chosen : Part) (rows : List Part) (C : PairColouring) → lines_at text line ≡ chosen ∷ rows → is_matrix chosen ≡ true → first_fault (matrix_tests (length text) chosen rows) ≡ None
+pub matrix_reading : (text : List ℕ) (line : ℕ) (chosen : Part) (rows : List Part) (C : PairColouring) → lines_at text line ≡ chosen ∷ rows → is_matrix chosen ≡ true → first_that_holds (matrix_tests (length text) chosen rows) ≡ None
     → IsColouring C → C.size ≡ size_in chosen → ((x y : ℕ) → x < C.size → y < C.size → colour_at C x y ≡ cell rows x y) → IsRelationText text line C
 matrix_reading text line chosen rows C lines head none colouring size colours =
     let good = matrix-from_none (length text) chosen rows none in
@@ -101,14 +116,14 @@ matrix_reading text line chosen rows C lines head none colouring size colours =
     }
 
 -- so there is a reading where there is no fault
-graph_exists : (text : List ℕ) (line : ℕ) (chosen : Part) (rows : List Part) → lines_at text line ≡ chosen ∷ rows → first_fault (graph_tests Graph chosen) ≡ None → (C : PairColouring) × IsRelationText text line C
+graph_exists : (text : List ℕ) (line : ℕ) (chosen : Part) (rows : List Part) → lines_at text line ≡ chosen ∷ rows → first_that_holds (graph_tests Graph chosen) ≡ None → (C : PairColouring) × IsRelationText text line C
 graph_exists text line chosen rows lines none =
     let n = size_of chosen.bytes in
     let f = edge_colour (bits_of Graph chosen.bytes) in
     let limits = IsSize-from_body Graph chosen.bytes (body-from_none Graph chosen none) in
     (by_pairs n f, graph_reading text line chosen rows (by_pairs n f) lines none (IsColouring-by_pairs n f limits.least) refl (λ x y h l. colour_at-by_pairs n f x y h l))
 
-digraph_exists : (text : List ℕ) (line : ℕ) (chosen : Part) (rows : List Part) → lines_at text line ≡ chosen ∷ rows → is_digraph chosen ≡ true → first_fault (graph_tests Digraph (part_after 1 chosen)) ≡ None → (C : PairColouring) × IsRelationText text line C
+digraph_exists : (text : List ℕ) (line : ℕ) (chosen : Part) (rows : List Part) → lines_at text line ≡ chosen ∷ rows → is_digraph chosen ≡ true → first_that_holds (graph_tests Digraph (part_after 1 chosen)) ≡ None → (C : PairColouring) × IsRelationText text line C
 digraph_exists text line chosen rows lines ampersand none =
     let body = drop 1 chosen.bytes in
     let n = size_of body in
@@ -116,14 +131,14 @@ digraph_exists text line chosen rows lines ampersand none =
     let limits = IsSize-from_body Digraph body (body-from_none Digraph (part_after 1 chosen) none) in
     (by_pairs n f, digraph_reading text line chosen rows (by_pairs n f) lines ampersand none (IsColouring-by_pairs n f limits.least) refl (λ x y h l. colour_at-by_pairs n f x y h l))
 
-matrix_exists : (text : List ℕ) (line : ℕ) (chosen : Part) (rows : List Part) → lines_at text line ≡ chosen ∷ rows → is_matrix chosen ≡ true → first_fault (matrix_tests (length text) chosen rows) ≡ None → (C : PairColouring) × IsRelationText text line C
+matrix_exists : (text : List ℕ) (line : ℕ) (chosen : Part) (rows : List Part) → lines_at text line ≡ chosen ∷ rows → is_matrix chosen ≡ true → first_that_holds (matrix_tests (length text) chosen rows) ≡ None → (C : PairColouring) × IsRelationText text line C
 matrix_exists text line chosen rows lines head none =
     let n = size_in chosen in
     let f = cell rows in
     let good = matrix-from_none (length text) chosen rows none in
     (by_pairs n f, matrix_reading text line chosen rows (by_pairs n f) lines head none (IsColouring-by_pairs n f good.size.least) refl (λ x y h l. colour_at-by_pairs n f x y h l))
 
-chosen_exists : (text : List ℕ) (line : ℕ) (chosen : Part) (rows : List Part) → lines_at text line ≡ chosen ∷ rows → first_fault (relation_tests (length text) (chosen ∷ rows)) ≡ None → (C : PairColouring) × IsRelationText text line C
+chosen_exists : (text : List ℕ) (line : ℕ) (chosen : Part) (rows : List Part) → lines_at text line ≡ chosen ∷ rows → first_that_holds (relation_tests (length text) (chosen ∷ rows)) ≡ None → (C : PairColouring) × IsRelationText text line C
 chosen_exists text line chosen rows lines none = elim (cases_Bool (is_matrix chosen)) [
   | inl head ↦ matrix_exists text line chosen rows lines head (sym (tests-matrix (length text) chosen rows head) ∙ none)
   | inr other ↦ elim (cases_Bool (is_digraph chosen)) [
@@ -132,7 +147,7 @@ chosen_exists text line chosen rows lines none = elim (cases_Bool (is_matrix cho
   ]
 ]
 
-reading_at : (text : List ℕ) (line : ℕ) (lines : List Part) → lines_at text line ≡ lines → first_fault (relation_tests (length text) lines) ≡ None → (C : PairColouring) × IsRelationText text line C
+reading_at : (text : List ℕ) (line : ℕ) (lines : List Part) → lines_at text line ≡ lines → first_that_holds (relation_tests (length text) lines) ≡ None → (C : PairColouring) × IsRelationText text line C
 reading_at text line [] e none = absurd cc
 reading_at text line (chosen ∷ rows) e none = chosen_exists text line chosen rows e none
 
@@ -164,7 +179,7 @@ not_both bytes rest other e f =
     omega arith
 
 -- a reading has no fault
-no_fault : (len : ℕ) (chosen : Part) (rows : List Part) (C : PairColouring) → IsSize C.size → IsRelation chosen rows C → first_fault (relation_tests len (chosen ∷ rows)) ≡ None
+no_fault : (len : ℕ) (chosen : Part) (rows : List Part) (C : PairColouring) → IsSize C.size → IsRelation chosen rows C → first_that_holds (relation_tests len (chosen ∷ rows)) ≡ None
 no_fault len chosen rows C size (graph is) =
     let other : is_matrix chosen ≡ false = false_from_ne_true (is_matrix chosen) (λ e. not_graph_matrix chosen.bytes _ C size is (begins chosen.bytes (codes "matrix ") e)) in
     let plain : is_digraph chosen ≡ false = false_from_ne_true (is_digraph chosen) (λ e. not_graph_digraph chosen.bytes _ C size is (begins chosen.bytes (codes "&") e)) in
@@ -182,7 +197,7 @@ size_read : (text : List ℕ) (line : ℕ) (C : PairColouring) → IsRelationTex
 size_read text line C is = record { least = is.colouring.has_points; most = is.limit }
 
 pub no_fault-read : (text : List ℕ) (line : ℕ) (C : PairColouring) → IsRelationText text line C → relation_fault text line ≡ None
-no_fault-read text line C is = ap (λ lines. first_fault (relation_tests (length text) lines)) is.lines ∙ no_fault (length text) is.chosen is.rows C (size_read text line C is) is.relation
+no_fault-read text line C is = ap (λ lines. first_that_holds (relation_tests (length text) lines)) is.lines ∙ no_fault (length text) is.chosen is.rows C (size_read text line C is) is.relation
 
 -- two readings of the same lines
 same_relation : (chosen : Part) (rows : List Part) (C D : PairColouring) → IsSize C.size → IsSize D.size → IsRelation chosen rows C → IsRelation chosen rows D → SameColours C D
@@ -204,9 +219,12 @@ reading_is_unique text line C D a b =
     let other : IsRelation a.chosen a.rows D = subst (λ (p : Part). IsRelation p a.rows D) (sym chosen) (subst (λ (ps : List Part). IsRelation b.chosen ps D) (sym rows) b.relation) in
     same_colouring C D a.colouring b.colouring (same_relation a.chosen a.rows C D (size_read text line C a) (size_read text line D b) a.relation other)
 
+pub fault_has_no_reading : (text : List ℕ) (line : ℕ) (fault : RelationWord × ℕ) → relation_fault text line ≡ Some fault → (C : PairColouring) → ¬ IsRelationText text line C
+fault_has_no_reading text line fault e C is = none-some fault (sym (no_fault-read text line C is) ∙ e)
+
 fault_or_reading : (text : List ℕ) (line : ℕ) (o : Option (RelationWord × ℕ)) → relation_fault text line ≡ o → MatchOption o ((C : PairColouring) × IsRelationText text line C) (λ _. (C : PairColouring) → ¬ IsRelationText text line C)
 fault_or_reading text line None e = reading_exists text line e
-fault_or_reading text line (Some fault) e = λ C is. none-some fault (sym (no_fault-read text line C is) ∙ e)
+fault_or_reading text line (Some fault) e = fault_has_no_reading text line fault e
 
 pub reads_or_fails : (text : List ℕ) (line : ℕ) → 1 ≤ line → MatchOption (relation_fault text line) ((C : PairColouring) × IsRelationText text line C) (λ _. (C : PairColouring) → ¬ IsRelationText text line C)
 reads_or_fails text line h = fault_or_reading text line (relation_fault text line) refl
@@ -229,20 +247,20 @@ arcs_hold bytes C size has x y h l =
     let within : x * C.size + y < count_of Digraph (size_of bytes) = subst (λ (n : ℕ). x * C.size + y < length (row_pairs n)) size (row_pairs-at C.size x y h l).0 in
     has.arc x y h l ∙ ap (pair_colour x y) (sym (bit_at-bits_in (count_of Digraph (size_of bytes)) (bits_part bytes) (x * C.size + y) within))
 
-pub graph_read : (text : List ℕ) (line : ℕ) (chosen : Part) (rows : List Part) (r : Result PairColouring RelationFault) → lines_at text line ≡ chosen ∷ rows → OnOk r (first_fault (graph_tests Graph chosen) ≡ None)
+pub graph_read : (text : List ℕ) (line : ℕ) (chosen : Part) (rows : List Part) (r : Result PairColouring RelationFault) → lines_at text line ≡ chosen ∷ rows → OnOk r (first_that_holds (graph_tests Graph chosen) ≡ None)
     → IfOk r (λ c. IsColouring c) → IfOk r (λ c. c.size ≡ size_of chosen.bytes) → IfOk r (λ c. HasEdges (bits_part chosen.bytes) c) → IfOk r (λ c. IsRelationText text line c)
 graph_read text line chosen rows (Ok c) lines none colouring size edges = graph_reading text line chosen rows c lines none colouring size (edges_hold chosen.bytes c size edges)
 graph_read text line chosen rows (Err e) lines none colouring size edges = tt
 
 pub digraph_read : (text : List ℕ) (line : ℕ) (chosen body : Part) (rows : List Part) (r : Result PairColouring RelationFault) → lines_at text line ≡ chosen ∷ rows → true ≡ is_digraph chosen → body ≡ part_after 1 chosen
-    → OnOk r (first_fault (graph_tests Digraph body) ≡ None) → IfOk r (λ c. IsColouring c) → IfOk r (λ c. c.size ≡ size_of body.bytes) → IfOk r (λ c. HasArcs (bits_part body.bytes) c) → IfOk r (λ c. IsRelationText text line c)
+    → OnOk r (first_that_holds (graph_tests Digraph body) ≡ None) → IfOk r (λ c. IsColouring c) → IfOk r (λ c. c.size ≡ size_of body.bytes) → IfOk r (λ c. HasArcs (bits_part body.bytes) c) → IfOk r (λ c. IsRelationText text line c)
 digraph_read text line chosen body rows (Ok c) lines ampersand is none colouring size arcs =
     let size_too : c.size ≡ size_of (drop 1 chosen.bytes) = size ∙ ap (λ p. size_of p.bytes) is in
-    digraph_reading text line chosen rows c lines (sym ampersand) (ap (λ p. first_fault (graph_tests Digraph p)) (sym is) ∙ none) colouring size_too
+    digraph_reading text line chosen rows c lines (sym ampersand) (ap (λ p. first_that_holds (graph_tests Digraph p)) (sym is) ∙ none) colouring size_too
     (arcs_hold (drop 1 chosen.bytes) c size_too (subst (λ (p : Part). HasArcs (bits_part p.bytes) c) is arcs))
 digraph_read text line chosen body rows (Err e) lines ampersand is none colouring size arcs = tt
 
-pub matrix_read : (text : List ℕ) (line : ℕ) (chosen : Part) (rows : List Part) (r : Result PairColouring RelationFault) → lines_at text line ≡ chosen ∷ rows → true ≡ is_matrix chosen → OnOk r (first_fault (matrix_tests (length text) chosen rows) ≡ None)
+pub matrix_read : (text : List ℕ) (line : ℕ) (chosen : Part) (rows : List Part) (r : Result PairColouring RelationFault) → lines_at text line ≡ chosen ∷ rows → true ≡ is_matrix chosen → OnOk r (first_that_holds (matrix_tests (length text) chosen rows) ≡ None)
     → IfOk r (λ c. IsColouring c) → IfOk r (λ c. c.size ≡ size_in chosen) → IfOk r (λ c. (x y : ℕ) → x < c.size → y < c.size → colour_at c x y ≡ cell rows x y) → IfOk r (λ c. IsRelationText text line c)
 matrix_read text line chosen rows (Ok c) lines head none colouring size cells = matrix_reading text line chosen rows c lines (sym head) none colouring size cells
 matrix_read text line chosen rows (Err e) lines head none colouring size cells = tt

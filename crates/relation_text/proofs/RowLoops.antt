@@ -13,29 +13,30 @@ use Rattle.text_lines.specs.Number.{has_leading_zero}
 use Rattle.text_lines.proofs.WordBytes.{words_from-bytes}
 use Rattle.text_lines.proofs.Within.{IsBetween, words_from-within}
 use Rattle.pair_colours.specs.Colouring.{PairColouring, IsColouring, colour_at}
+use Rattle.pair_colours.specs.Tests.{first_that_holds}
 use Rattle.pair_colours.specs.declared.coloured_pairs.TheConstants.{MOST_COLOUR}
 use Rattle.relation_text.specs.declared.faults.RelationWord.{RelationWord}
 use Rattle.relation_text.specs.declared.faults.RelationWord.TheVariants.{MatrixNumber, MatrixCount, ColourTooLarge, BadByte}
 use Rattle.relation_text.specs.Lines.{end_of}
 use Rattle.relation_text.specs.LineColours.{no_part, cell_of}
-use Rattle.relation_text.specs.Faults.{Test, first_fault, row_tests, is_row_byte}
-use Rattle.relation_text.proofs.TestLemmas.{list_any-false}
+use Rattle.relation_text.specs.Faults.{Test, row_tests, is_row_byte}
+use Rattle.relation_text.proofs.AnyLemmas.{list_any-false}
 use Rattle.relation_text.proofs.MatrixRows.{words_tests, digit_or_blank}
 
 -- the test that comes after all numbers
 abbrev pub last_test : ℕ → Part → List Test
-last_test n row = (ltb (length (words_of row)) n, MatrixCount, end_of row) ∷ []
+last_test n row = (ltb (length (words_of row)) n, (MatrixCount, end_of row)) ∷ []
 
 -- the first fault of the words that are left, the first of which stands at place y
 abbrev pub fault_left : ℕ → ℕ → Part → List Part → Option (RelationWord × ℕ)
-fault_left n y row left = first_fault (words_tests n y left ++ last_test n row)
+fault_left n y row left = first_that_holds (words_tests n y left ++ last_test n row)
 
 -- y words are read, and `left` are left; the colours of row x are read so far, and the others are as they were
 pub record ReadsRow (row : Part) (old new : PairColouring) (x y : ℕ) (left : List Part) : Type 0 where
   pub colouring : IsColouring new
   pub rest : left ≡ drop y (words_of row)
   pub count : y ≤ length (words_of row)
-  pub tests : first_fault (row_tests 0 old.size (Some row)) ≡ fault_left old.size y row left
+  pub tests : first_that_holds (row_tests 0 old.size (Some row)) ≡ fault_left old.size y row left
   pub digits : All (λ word. All (λ b. is_ascii_digit b ≡ true) word.bytes) left
   pub within : All (λ word. word.start ≤ end_of row) left
   pub points : new.size ≡ old.size

@@ -3,6 +3,7 @@ use Rattle.std.proofs.Common.{◌≡◌, ℕ, ◌+◌, ◌-◌, ◌/◌, ◌%◌
 use Rattle.std.specs.Prelude.{All}
 use Rattle.std.proofs.lemmas.Bool.{cases_lt, and_from, and_parts, leb-true, le-leb, lt-leb, ne_eqb, eq-eqb}
 use Rattle.std.proofs.lemmas.List.Elements.{All-nil, All-cons, All-same}
+use Rattle.pair_colours.specs.declared.coloured_pairs.TheConstants.{MOST_POINTS}
 use Rattle.relation_text.specs.Bits.{size_bytes, size_len}
 use Rattle.relation_text.specs.Faults.{is_graph_byte, long_size, size_of}
 
@@ -47,7 +48,7 @@ from_graph_byte b e = let parts = and_parts (leb 63 b) (leb b 126) e in (leb-tru
 abbrev P : ℕ → Type 0
 P b = is_graph_byte b ≡ true
 
-pub size_bytes-printable : (n : ℕ) → n ≤ 128 → All (λ b. is_graph_byte b ≡ true) (size_bytes n)
+pub size_bytes-printable : (n : ℕ) → n ≤ MOST_POINTS → All (λ b. is_graph_byte b ≡ true) (size_bytes n)
 size_bytes-printable n h = elim (cases_lt 62 n) [
   | inl long ↦ All-same P (size_bytes n) (long_bytes n) (size_bytes-long n long)
       (All-cons P 126 ((n / 4096 + 63) ∷ (n / 64 % 64 + 63) ∷ (n % 64 + 63) ∷ []) (graph_byte 126 (omega arith) (omega arith))

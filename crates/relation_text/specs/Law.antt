@@ -1,8 +1,9 @@
--- Each text has, at each line, one reading or one fault; and what is written is read back.
-use Rattle.std.specs.Prelude.{◌≡◌, ℕ, ◌<◌, ◌≤◌, List, MatchOption}
-use Rattle.pair_colours.specs.Colouring.{PairColouring, IsColouring, colour_at}
+-- Each text has, at each line, one reading or one fault; what is read is raw; what is written is read back.
+use Rattle.std.specs.Prelude.{◌≡◌, ℕ, ◌<◌, ◌≤◌, List, MatchOption, Some, None}
+use Rattle.pair_colours.specs.Colouring.{PairColouring, IsColouring, IsRawColouring, colour_at}
 use Rattle.pair_colours.specs.ColourSets.{is_in, IsEdgeSet}
 use Rattle.pair_colours.specs.declared.coloured_pairs.TheConstants.{MOST_POINTS}
+use Rattle.relation_text.specs.declared.faults.RelationWord.{RelationWord}
 use Rattle.relation_text.specs.Relation.{IsRelationText, pair_colour}
 use Rattle.relation_text.specs.Written.{graph6_of, digraph6_of}
 use Rattle.relation_text.specs.Faults.{relation_fault}
@@ -13,9 +14,21 @@ ReadsOrFails = (text : List ℕ) (line : ℕ) → 1 ≤ line → MatchOption (re
     ((C : PairColouring) × IsRelationText text line C)
     (λ _. (C : PairColouring) → ¬ IsRelationText text line C)
 
--- and there is one reading at most
+-- a text that reads has no fault
+abbrev pub ReadingHasNoFault : Type 0
+ReadingHasNoFault = (text : List ℕ) (line : ℕ) (C : PairColouring) → IsRelationText text line C → relation_fault text line ≡ None
+
+-- a text with a fault has no reading
+abbrev pub FaultHasNoReading : Type 0
+FaultHasNoReading = (text : List ℕ) (line : ℕ) (fault : RelationWord × ℕ) → relation_fault text line ≡ Some fault → (C : PairColouring) → ¬ IsRelationText text line C
+
+-- there is one reading at most
 abbrev pub ReadingIsUnique : Type 0
 ReadingIsUnique = (text : List ℕ) (line : ℕ) (C D : PairColouring) → IsRelationText text line C → IsRelationText text line D → C ≡ D
+
+-- what is read is raw
+abbrev pub ReadingIsRaw : Type 0
+ReadingIsRaw = (text : List ℕ) (line : ℕ) (C : PairColouring) → IsRelationText text line C → IsRawColouring C
 
 -- D is the graph of a set of colours of C: its edges, or its arcs and loops, are the pairs with a colour in the set
 pub record IsGraphOf (C : PairColouring) (set : List ℕ) (D : PairColouring) : Type 0 where

@@ -2,7 +2,9 @@ pub mod Bits
 pub mod Orders
 pub mod Lines
 pub mod Relation
+pub mod RelationWord
 pub mod Faults
 pub mod Written
 pub mod Law
+pub mod Limits
 pub mod LineColours

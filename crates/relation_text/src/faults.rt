@@ -22,7 +22,7 @@ pub enum RelationWord {
     SizeForm,
     /// There are no points.
     NoPoints,
-    /// There are more than 128 points.
+    /// There are more points than `MOST_POINTS`.
     TooManyPoints,
     /// The line is not as long as its size asks for.
     WrongLength,
@@ -34,8 +34,31 @@ pub enum RelationWord {
     MatrixNumber,
     /// There are too few or too many rows or numbers.
     MatrixCount,
-    /// A colour is above 65,535.
+    /// A colour is above `MOST_COLOUR`.
     ColourTooLarge,
+}
+
+impl RelationWord {
+    ghost use Rattle.relation_text.specs.RelationWord.{relation_word};
+
+    /// The word of the fault, which is the name of its variant.
+    pub fn as_str(self) -> &'static str
+        ensures { result.now ≡ relation_word self }
+    {
+        match self {
+            RelationWord::NoLine => "NoLine",
+            RelationWord::BadByte => "BadByte",
+            RelationWord::SizeForm => "SizeForm",
+            RelationWord::NoPoints => "NoPoints",
+            RelationWord::TooManyPoints => "TooManyPoints",
+            RelationWord::WrongLength => "WrongLength",
+            RelationWord::PadBits => "PadBits",
+            RelationWord::MatrixHead => "MatrixHead",
+            RelationWord::MatrixNumber => "MatrixNumber",
+            RelationWord::MatrixCount => "MatrixCount",
+            RelationWord::ColourTooLarge => "ColourTooLarge",
+        }
+    }
 }
 
 /// Why a relation was not read.

@@ -3,6 +3,7 @@
 ghost use Rattle.std.specs.Prelude.{◌≡◌, ◌==◌, ◌≤◌, ◌<◌, ◌+◌, ◌-◌, ◌*◌, ◌/◌, ◌^◌, not, true, false, All, None, IfNone, IfSome, length, slice_index};
 ghost use Rattle.std.specs.List.{list_any, position_or_len, range_with_len};
 ghost use Rattle.text_lines.specs.Views.{part_of};
+ghost use Rattle.pair_colours.specs.Tests.{first_that_holds};
 ghost use Rattle.relation_text.specs.Bits as encoding;
 ghost use Rattle.relation_text.specs.Orders.{pairs_of};
 ghost use Rattle.relation_text.specs.Lines.{end_of};
@@ -16,7 +17,7 @@ use text_lines::TextPart;
 
 // The first fault of a graph line, without the ampersand of a digraph6 line.
 pub(crate) fn graph_fault(format: GraphFormat, body: TextPart<'_>) -> Option<Fault>
-    ensures fault { result ≡ spec.first_fault (spec.graph_tests format (part_of body.entry)) }
+    ensures fault { result ≡ first_that_holds (spec.graph_tests format (part_of body.entry)) }
     ensures within { IfSome result (λ fault. fault.1 ≤ end_of (part_of body.entry)) }
 {
     if let Some(fault) = byte_fault(body) {
@@ -30,7 +31,7 @@ pub(crate) fn graph_fault(format: GraphFormat, body: TextPart<'_>) -> Option<Fau
 
 // A line that is empty, or a byte that holds no six bits.
 fn byte_fault(body: TextPart<'_>) -> Option<Fault>
-    ensures fault { result ≡ spec.first_fault (spec.byte_tests (part_of body.entry)) }
+    ensures fault { result ≡ first_that_holds (spec.byte_tests (part_of body.entry)) }
     ensures within { IfSome result (λ fault. fault.1 ≤ end_of (part_of body.entry)) }
 {
     if body.bytes.is_empty() {
@@ -54,8 +55,8 @@ fn bad_byte(bytes: &[u8]) -> Option<usize>
 
 // A size that is none, too large, or not in its one form.
 fn size_fault(body: TextPart<'_>) -> Option<Fault>
-    requires { spec.first_fault (spec.byte_tests (part_of body)) ≡ None }
-    ensures fault { result ≡ spec.first_fault (spec.size_tests (part_of body.entry)) }
+    requires { first_that_holds (spec.byte_tests (part_of body)) ≡ None }
+    ensures fault { result ≡ first_that_holds (spec.size_tests (part_of body.entry)) }
     ensures within { IfSome result (λ fault. fault.1 ≤ end_of (part_of body.entry)) }
 {
     let bytes = body.bytes;
@@ -116,7 +117,7 @@ pub(crate) fn size_len(size: usize) -> usize
 fn bit_count(format: GraphFormat, size: usize) -> usize
     requires { size ≤ MOST_POINTS }
     ensures count { result ≡ length (pairs_of format size) }
-    ensures few { result ≤ 16384 }
+    ensures few { result ≤ MOST_POINTS * MOST_POINTS }
 {
     match format {
         GraphFormat::Graph => size * size.saturating_sub(1) / 2,
@@ -127,9 +128,9 @@ fn bit_count(format: GraphFormat, size: usize) -> usize
 // A line that has too few or too many bytes for its size, or a bit that only fills up the last byte
 // and is not 0.
 fn bits_fault(format: GraphFormat, body: TextPart<'_>) -> Option<Fault>
-    requires bytes { spec.first_fault (spec.byte_tests (part_of body)) ≡ None }
-    requires size { spec.first_fault (spec.size_tests (part_of body)) ≡ None }
-    ensures fault { result ≡ spec.first_fault (spec.bits_tests format (part_of body.entry)) }
+    requires bytes { first_that_holds (spec.byte_tests (part_of body)) ≡ None }
+    requires size { first_that_holds (spec.size_tests (part_of body)) ≡ None }
+    ensures fault { result ≡ first_that_holds (spec.bits_tests format (part_of body.entry)) }
     ensures within { IfSome result (λ fault. fault.1 ≤ end_of (part_of body.entry)) }
 {
     let bytes = body.bytes;
@@ -150,7 +151,7 @@ fn bits_fault(format: GraphFormat, body: TextPart<'_>) -> Option<Fault>
 // Whether a bit from a place on is 1.
 fn has_padding(bits: &[u8], count: usize, len: usize) -> bool
     requires bytes_len { length bits.now ≡ len }
-    requires few { len < 2 ^ 16 }
+    requires few { len ≤ MOST_POINTS * MOST_POINTS }
     requires printable { All (λ b. 63 ≤ b) bits.now }
     ensures { result ≡ list_any (encoding.bit_in bits.now) (range_with_len count (6 * len - count)) }
 {

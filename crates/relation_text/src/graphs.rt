@@ -3,6 +3,7 @@
 ghost use Rattle.std.specs.Prelude.{◌≡◌, ◌^◌, ◌<◌, None, IfOk, IfErr, OnOk};
 ghost use Rattle.text_lines.specs.Views.{part_of};
 ghost use Rattle.pair_colours.specs.Colouring.{IsColouring};
+ghost use Rattle.pair_colours.specs.Tests.{first_that_holds};
 ghost use Rattle.relation_text.specs.Lines.{end_of};
 ghost use Rattle.relation_text.specs.Faults as spec;
 ghost use Rattle.relation_text.specs.LineColours.{HasEdges, HasArcs};
@@ -19,8 +20,8 @@ use text_lines::TextPart;
 // Reads a graph6 line.
 pub(crate) fn read_graph(alloc: Global, line: TextPart<'_>) -> Result<Colouring, RelationFault>
     requires { end_of (part_of line) < 2 ^ 32 }
-    ensures fault { IfErr result (λ fault. spec.IsFaultOf fault (spec.first_fault (spec.graph_tests Graph (part_of line.entry)))) }
-    ensures good { OnOk result (spec.first_fault (spec.graph_tests Graph (part_of line.entry)) ≡ None) }
+    ensures fault { IfErr result (λ fault. spec.IsFaultOf fault (first_that_holds (spec.graph_tests Graph (part_of line.entry)))) }
+    ensures good { OnOk result (first_that_holds (spec.graph_tests Graph (part_of line.entry)) ≡ None) }
     ensures points { IfOk result (λ c. c.size ≡ spec.size_of line.entry.bytes.now) }
     ensures colouring { IfOk result (λ c. IsColouring c) }
     ensures edges { IfOk result (λ c. HasEdges (spec.bits_part line.entry.bytes.now) c) }
@@ -36,8 +37,8 @@ pub(crate) fn read_graph(alloc: Global, line: TextPart<'_>) -> Result<Colouring,
 // Reads a digraph6 line, without its ampersand.
 pub(crate) fn read_digraph(alloc: Global, body: TextPart<'_>) -> Result<Colouring, RelationFault>
     requires { end_of (part_of body) < 2 ^ 32 }
-    ensures fault { IfErr result (λ fault. spec.IsFaultOf fault (spec.first_fault (spec.graph_tests Digraph (part_of body.entry)))) }
-    ensures good { OnOk result (spec.first_fault (spec.graph_tests Digraph (part_of body.entry)) ≡ None) }
+    ensures fault { IfErr result (λ fault. spec.IsFaultOf fault (first_that_holds (spec.graph_tests Digraph (part_of body.entry)))) }
+    ensures good { OnOk result (first_that_holds (spec.graph_tests Digraph (part_of body.entry)) ≡ None) }
     ensures points { IfOk result (λ c. c.size ≡ spec.size_of body.entry.bytes.now) }
     ensures colouring { IfOk result (λ c. IsColouring c) }
     ensures arcs { IfOk result (λ c. HasArcs (spec.bits_part body.entry.bytes.now) c) }

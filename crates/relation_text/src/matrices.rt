@@ -3,8 +3,9 @@
 ghost use Rattle.std.specs.Prelude.{◌≡◌, ℕ, ◌+◌, ◌^◌, ◌<◌, ◌≤◌, None, All, IfOk, IfErr, OnOk, Some};
 ghost use Rattle.text_lines.specs.Views.{part_of};
 ghost use Rattle.pair_colours.specs.Colouring.{IsColouring, colour_at};
+ghost use Rattle.pair_colours.specs.Tests.{first_that_holds};
 ghost use Rattle.relation_text.specs.Lines.{end_of};
-ghost use Rattle.relation_text.specs.Faults.{IsFaultOf, first_fault, head_tests, matrix_tests};
+ghost use Rattle.relation_text.specs.Faults.{IsFaultOf, head_tests, matrix_tests};
 ghost use Rattle.relation_text.specs.LineColours.{cell, size_in};
 
 use crate::choosing::part_after;
@@ -25,8 +26,8 @@ pub(crate) fn read_matrix(
     requires limit { len < 2 ^ 31 }
     requires head { end_of (part_of head) < 2 ^ 31 }
     requires rows { All (λ row. end_of row < 2 ^ 31) left }
-    ensures fault { IfErr result (λ fault. IsFaultOf fault (first_fault (matrix_tests len (part_of head.entry) left.entry))) }
-    ensures good { OnOk result (first_fault (matrix_tests len (part_of head.entry) left.entry) ≡ None) }
+    ensures fault { IfErr result (λ fault. IsFaultOf fault (first_that_holds (matrix_tests len (part_of head.entry) left.entry))) }
+    ensures good { OnOk result (first_that_holds (matrix_tests len (part_of head.entry) left.entry) ≡ None) }
     ensures points { IfOk result (λ c. c.size ≡ size_in (part_of head.entry)) }
     ensures colouring { IfOk result (λ c. IsColouring c) }
     ensures cells { IfOk result (λ c. (x y : ℕ) → x < c.size → y < c.size → colour_at c x y ≡ cell left.entry x y) }
@@ -51,10 +52,10 @@ pub(crate) fn read_matrix(
 fn matrix_size(head: TextPart<'_>) -> Result<u32, Fault>
     requires { end_of (part_of head) < 2 ^ 31 }
     ensures size { IfOk result (λ size. size ≡ size_in (part_of head.entry)) }
-    ensures good { OnOk result (first_fault (head_tests (part_of head.entry)) ≡ None) }
+    ensures good { OnOk result (first_that_holds (head_tests (part_of head.entry)) ≡ None) }
     ensures some { IfOk result (λ size. 1 ≤ size) }
     ensures few { IfOk result (λ size. size ≤ MOST_POINTS) }
-    ensures fault { IfErr result (λ fault. first_fault (head_tests (part_of head.entry)) ≡ Some fault) }
+    ensures fault { IfErr result (λ fault. first_that_holds (head_tests (part_of head.entry)) ≡ Some fault) }
     ensures within { IfErr result (λ fault. fault.1 ≤ end_of (part_of head.entry) + 7) }
 {
     let word = part_after(head, 7);

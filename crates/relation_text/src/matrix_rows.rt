@@ -7,8 +7,9 @@ ghost use Rattle.std.specs.Str.Parse.{digits_value};
 ghost use Rattle.text_lines.specs.Number as form;
 ghost use Rattle.text_lines.specs.Views.{part_of};
 ghost use Rattle.pair_colours.specs.Colouring.{IsColouring, colour_at};
+ghost use Rattle.pair_colours.specs.Tests.{first_that_holds};
 ghost use Rattle.relation_text.specs.Lines.{end_of};
-ghost use Rattle.relation_text.specs.Faults.{first_fault, is_row_byte, row_tests};
+ghost use Rattle.relation_text.specs.Faults.{is_row_byte, row_tests};
 ghost use Rattle.relation_text.specs.LineColours.{cell_of};
 
 use crate::faults::{Fault, RelationWord};
@@ -19,7 +20,7 @@ use text_lines::{TextPart, is_blank, words};
 pub(crate) fn read_row(colouring: &mut Colouring, x: u32, row: TextPart<'_>) -> Option<Fault>
     requires row { x < colouring.old.size }
     requires colouring { IsColouring colouring.old }
-    ensures fault { result ≡ first_fault (row_tests 0 colouring.old.size (Some (part_of row.entry))) }
+    ensures fault { result ≡ first_that_holds (row_tests 0 colouring.old.size (Some (part_of row.entry))) }
     ensures within { IfSome result (λ fault. fault.1 ≤ end_of (part_of row.entry)) }
     ensures colouring { IsColouring colouring.new }
     ensures points { colouring.new.size ≡ colouring.old.size }

@@ -10,6 +10,7 @@ use Rattle.std.proofs.lemmas.Bool.{false≢true, eqb-true, leb-true, not-false, 
 use Rattle.std.proofs.lemmas.Slice.Eq.{bytes_eq-Decides}
 use Rattle.text_lines.specs.Number.{IsNumberForm}
 use Rattle.text_lines.proofs.Numbers.{number_of-form}
+use Rattle.pair_colours.specs.Tests.{first_that_holds}
 use Rattle.script_text.specs.declared.acts.Act.{Act}
 use Rattle.script_text.specs.declared.acts.Act.TheVariants as acts
 use Rattle.script_text.specs.declared.acts.GraphForm.TheVariants.{Graph6, Digraph6}
@@ -21,7 +22,7 @@ use Rattle.script_text.specs.declared.keywords.Keyword.TheVariants.{Mergings, Wr
 use Rattle.script_text.specs.Answers.{texts, IsFaultWhere, IsFirstFault}
 use Rattle.script_text.specs.Grammar.{AsksFor, AreSome, IsLimit}
 use Rattle.script_text.specs.Keyword.{spelling, allows, has_unknown_word}
-use Rattle.script_text.specs.LineFaults.{is_beyond_limit, content_tests, keyword_tests, word_tests, first_fault}
+use Rattle.script_text.specs.LineFaults.{is_beyond_limit, content_tests, keyword_tests, word_tests}
 use Rattle.script_text.proofs.NumberForms.{forms_all, forms_length}
 use Rattle.script_text.proofs.KeywordTests.{word_tests-spelling}
 
@@ -47,16 +48,16 @@ tests_are : (first : List ℕ) (keyword : Keyword) (others : List (List ℕ)) �
 tests_are first keyword others e = ap (λ w. word_tests (w ∷ others)) e ∙ word_tests-spelling keyword others
 
 pub unknown_word : (first : List ℕ) (keyword : Keyword) (others : List (List ℕ)) → first ≡ spelling keyword → has_unknown_word keyword others ≡ true
-    → first_fault (word_tests (first ∷ others)) ≡ Some UnknownWord
-unknown_word first keyword others e known = ap first_fault (tests_are first keyword others e) ∙ rw known refl
+    → first_that_holds (word_tests (first ∷ others)) ≡ Some UnknownWord
+unknown_word first keyword others e known = ap first_that_holds (tests_are first keyword others e) ∙ rw known refl
 
 pub wrong_count : (first : List ℕ) (keyword : Keyword) (others : List (List ℕ)) → first ≡ spelling keyword → has_unknown_word keyword others ≡ false
-    → allows keyword (length others) ≡ false → first_fault (word_tests (first ∷ others)) ≡ Some WrongCount
-wrong_count first keyword others e known count = ap first_fault (tests_are first keyword others e) ∙ rw (known, count) refl
+    → allows keyword (length others) ≡ false → first_that_holds (word_tests (first ∷ others)) ≡ Some WrongCount
+wrong_count first keyword others e known count = ap first_that_holds (tests_are first keyword others e) ∙ rw (known, count) refl
 
 pub content_fails : (first : List ℕ) (keyword : Keyword) (others : List (List ℕ)) → first ≡ spelling keyword → has_unknown_word keyword others ≡ false
     → allows keyword (length others) ≡ true → (fault : LineFault) → IsFirstFault (content_tests keyword others) fault → IsFirstFault (word_tests (first ∷ others)) fault
-content_fails first keyword others e known count (Word what) h = ap first_fault (tests_are first keyword others e) ∙ rw (known, count) h
+content_fails first keyword others e known count (Word what) h = ap first_that_holds (tests_are first keyword others e) ∙ rw (known, count) h
 content_fails first keyword others e known count NoMemory h = tt
 
 -- a number, and one or more behind it

@@ -1,13 +1,15 @@
 -- The tests of a line whose first word is a keyword.
-use Rattle.std.proofs.Common.{◌≡◌, ◌≢◌, ℕ, Bool, true, false, cond, not, List, [], ◌∷◌, length, Option, Some, None, bytes_eq, refl, subst, inl, inr, ⊎_elim, ◌⊎◌}
+use Rattle.std.proofs.Common.{◌≡◌, ◌≢◌, ℕ, Bool, true, false, cond, List, [], ◌∷◌, length, Option, Some, None, bytes_eq, refl, subst, inl, inr, ⊎_elim, ◌⊎◌}
 use Rattle.std.specs.Prelude.{find}
-use Rattle.std.proofs.lemmas.Bool.{false_from_ne_true, not-false}
+use Rattle.std.proofs.lemmas.Bool.{false_from_ne_true, not-false, not_from_true}
 use Rattle.std.proofs.lemmas.Slice.Eq.{bytes_eq-Decides}
-use Rattle.script_text.specs.declared.faults.ScriptWord.TheVariants.{UnknownWord, WrongCount, BadNumber, BadLimit, BadName}
+use Rattle.pair_colours.specs.Tests.{first_that_holds}
+use Rattle.pair_colours.proofs.TestLemmas.{AllFail-from_none, none-from_AllFail}
+use Rattle.script_text.specs.declared.faults.ScriptWord.TheVariants.{UnknownWord}
 use Rattle.script_text.specs.declared.keywords.Keyword.{Keyword}
 use Rattle.script_text.specs.declared.keywords.Keyword.TheVariants.{Set, Both, Fix, Join, Adopt, Fuse, Direct, Wreath, Undo, Redo, Show, Raw, Classes, Constants, Tests, Array, Closed, Quotient, Sub, Close, Good, Mergings, Trace, Write}
 use Rattle.script_text.specs.Keyword.{spelling, keywords, keyword_of, allows, has_unknown_word}
-use Rattle.script_text.specs.LineFaults.{has_bad_number, has_bad_limit, has_bad_name, keyword_tests, word_tests, first_fault}
+use Rattle.script_text.specs.LineFaults.{has_bad_number, has_bad_limit, has_bad_name, keyword_tests, word_tests}
 
 -- a word is the keyword that it spells
 pub keyword_of-spelling : (keyword : Keyword) → keyword_of (spelling keyword) ≡ Some keyword
@@ -67,7 +69,7 @@ pub word_tests-spelling : (keyword : Keyword) (others : List (List ℕ)) → wor
 word_tests-spelling keyword others = rw (keyword_of-spelling keyword) refl
 
 -- the first word is no keyword
-pub unknown_first : (first : List ℕ) (others : List (List ℕ)) → keyword_of first ≡ None → first_fault (word_tests (first ∷ others)) ≡ Some UnknownWord
+pub unknown_first : (first : List ℕ) (others : List (List ℕ)) → keyword_of first ≡ None → first_that_holds (word_tests (first ∷ others)) ≡ Some UnknownWord
 unknown_first first others e = rw e refl
 
 -- no test holds of the words behind a keyword
@@ -78,19 +80,10 @@ pub record Passes (keyword : Keyword) (others : List (List ℕ)) : Type 0 where
   pub limit : has_bad_limit keyword others ≡ false
   pub name : has_bad_name keyword others ≡ false
 
-pub no_fault : (keyword : Keyword) (others : List (List ℕ)) → Passes keyword others → first_fault (keyword_tests keyword others) ≡ None
-no_fault keyword others p = rw (p.known, p.count, p.numbers, p.limit, p.name) refl
+pub no_fault : (keyword : Keyword) (others : List (List ℕ)) → Passes keyword others → first_that_holds (keyword_tests keyword others) ≡ None
+no_fault keyword others p = none-from_AllFail (keyword_tests keyword others) (p.known, (not_from_true _ p.count, (p.numbers, (p.limit, (p.name, tt)))))
 
-all_pass : (a b c d e : Bool) → first_fault ((UnknownWord, a) ∷ (WrongCount, b) ∷ (BadNumber, c) ∷ (BadLimit, d) ∷ (BadName, e) ∷ []) ≡ None
-    → (a ≡ false) × (b ≡ false) × (c ≡ false) × (d ≡ false) × (e ≡ false)
-all_pass true b c d e h = cc
-all_pass false true c d e h = cc
-all_pass false false true d e h = cc
-all_pass false false false true e h = cc
-all_pass false false false false true h = cc
-all_pass false false false false false h = (refl, refl, refl, refl, refl)
-
-pub passes_all : (keyword : Keyword) (others : List (List ℕ)) → first_fault (keyword_tests keyword others) ≡ None → Passes keyword others
+pub passes_all : (keyword : Keyword) (others : List (List ℕ)) → first_that_holds (keyword_tests keyword others) ≡ None → Passes keyword others
 passes_all keyword others e =
-    let passed = all_pass (has_unknown_word keyword others) (not (allows keyword (length others))) (has_bad_number keyword others) (has_bad_limit keyword others) (has_bad_name keyword others) e in
-    record { known = passed.0; count = not-false _ passed.1; numbers = passed.2; limit = passed.3; name = passed.4 }
+    let fails = AllFail-from_none (keyword_tests keyword others) e in
+    record { known = fails.0; count = not-false _ fails.1.0; numbers = fails.1.1.0; limit = fails.1.1.1.0; name = fails.1.1.1.1.0 }

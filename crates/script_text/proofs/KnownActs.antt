@@ -10,6 +10,7 @@ use Rattle.script_text.specs.declared.acts.Act.{Act}
 use Rattle.script_text.specs.declared.acts.Act.TheVariants as acts
 use Rattle.script_text.specs.declared.acts.GraphForm.TheVariants.{Graph6, Digraph6}
 use Rattle.script_text.specs.declared.keywords.Keyword.{Keyword}
+use Rattle.script_text.specs.declared.limits.TheConstants.{MOST_MERGINGS}
 use Rattle.script_text.specs.declared.keywords.Keyword.TheVariants.{Set, Both, Fix, Join, Adopt, Fuse, Direct, Wreath, Undo, Redo, Show, Raw, Classes, Constants, Tests, Array, Closed, Quotient, Sub, Close, Good, Mergings, Trace, Write}
 use Rattle.script_text.specs.Keyword.{spelling, keyword_of, allows, has_unknown_word, number_words, names_file}
 use Rattle.script_text.specs.Grammar.{AsksFor, Spells, IsLimit}
@@ -110,7 +111,7 @@ one_word (word ∷ next ∷ words) n h = absurd h.1
 -- a limit passes its test
 in_limit : (word : List ℕ) (most : ℕ) (others : List (List ℕ)) → IsNumberForm word most → IsLimit most → has_bad_limit Mergings (word ∷ others) ≡ false
 in_limit word most others form limit =
-    rw (number_of-form word most form) (or_from _ _ (ne_eqb most 0 (λ e. omega (arith, limit.0, e))) (le-ltb 10000 most limit.1))
+    rw (number_of-form word most form) (or_from _ _ (ne_eqb most 0 (λ e. omega (arith, limit.0, e))) (le-ltb MOST_MERGINGS most limit.1))
 
 merged : (word : List ℕ) (others : List (List ℕ)) (most : ℕ) (after : List ℕ) → value word ≡ most → map value others ≡ after
     → acts.Mergings most (Some after) ≡ act_with Mergings (word ∷ codes "after" ∷ others)
@@ -287,9 +288,9 @@ all_numbers others h = all_forms others (not-false _ h)
 limit_passed : (word : List ℕ) (others : List (List ℕ)) → is_number word ≡ true → has_bad_limit Mergings (word ∷ others) ≡ false → IsLimit (value word)
 limit_passed word others number e =
     let within : is_beyond_limit (value word) ≡ false = rw (number_of-value word number) at e in
-    let parts = or_parts (eqb (value word) 0) (ltb 10000 (value word)) within in
+    let parts = or_parts (eqb (value word) 0) (ltb MOST_MERGINGS (value word)) within in
     let positive : value word ≡ 0 → ⊥ = eqb-false (value word) 0 parts.0 in
-    (omega arith, ltb-false 10000 (value word) parts.1)
+    (omega arith, ltb-false MOST_MERGINGS (value word) parts.1)
 
 -- words of which no test holds ask for the act of their keyword
 pub asked : (keyword : Keyword) (others : List (List ℕ)) → Passes keyword others → AsksFor (spelling keyword ∷ others) (act_with keyword others)

@@ -1,10 +1,11 @@
-pub mod NumberForms
-pub mod KeywordTests
-pub mod KnownActs
-pub mod FaultyWords
-pub mod ActWords
-pub mod LineWords
-pub mod LineLemmas
-pub mod ScriptLines
-pub mod WholeScript
-pub mod ScriptLaw
+pub mod LawProofs
+mod NumberForms
+mod KeywordTests
+mod KnownActs
+mod FaultyWords
+mod ActWords
+mod LineWords
+mod LineLemmas
+mod ScriptLines
+mod WholeScript
+mod ScriptLaw

@@ -4,15 +4,18 @@ use Rattle.std.specs.Prelude.{IsTrue, IsSome, count_by, option_map, slice_get}
 use Rattle.std.specs.List.{AllZip, AllByRecursion, list_all, cons_option}
 use Rattle.std.proofs.lemmas.Bool.{false≢true}
 use Rattle.std.proofs.lemmas.List.{length_push, append-nil}
+use Rattle.std.proofs.lemmas.Option.{none-some}
 use Rattle.std.proofs.lemmas.List.Sums.{sum_by-append, sum_by-cons}
 use Rattle.text_lines.specs.Lines.{lines_of}
 use Rattle.text_lines.specs.Part.{Part}
+use Rattle.pair_colours.specs.Tests.{first_that_holds}
 use Rattle.script_text.specs.declared.acts.Act.{Act}
 use Rattle.script_text.specs.declared.acts.Line.{Line}
+use Rattle.script_text.specs.declared.limits.TheConstants.{MOST_PRODUCTS}
 use Rattle.script_text.specs.declared.faults.ScriptWord.{ScriptWord}
 use Rattle.script_text.specs.Answers.{IsRead, IsReadAt}
-use Rattle.script_text.specs.LineFaults.{word_texts, asks, is_script_byte, is_product, word_tests, line_tests, first_fault, faults_of}
-use Rattle.script_text.specs.Script.{asking_lines, IsLine, AreScript, product_count, ScriptIsUnique, ScriptOrFault, ScriptHasNoFault}
+use Rattle.script_text.specs.LineFaults.{word_texts, asks, is_script_byte, is_product, word_tests, line_tests, faults_of}
+use Rattle.script_text.specs.Script.{asking_lines, IsLine, AreScript, product_count, ScriptIsUnique, ScriptOrFault, ScriptHasNoFault, FaultHasNoScript}
 use Rattle.script_text.proofs.KnownActs.{one_act}
 use Rattle.script_text.proofs.LineLemmas.{IsPassed, act_passes, passing_act, passed, line_passes, read_product}
 use Rattle.script_text.proofs.ScriptLines.{AreRead, weight, asking_from, asking_lines-append, asking_first, count_by-one, faults_from, faults_of-from, products_same, none_read, read_more, found, line_for}
@@ -48,7 +51,7 @@ allowed_at [] line rest h = h.0
 allowed_at (d ∷ done) line rest h = allowed_at done line rest h.1
 
 asked_at : (done : List Part) (line : Part) (rest : List Part) (script : List Line) → AreScript (done ++ line ∷ rest) script → asks (word_texts line) ≡ true
-    → first_fault (word_tests (word_texts line)) ≡ None
+    → first_that_holds (word_tests (word_texts line)) ≡ None
 asked_at done line rest script h e =
     let whole : asking_lines (done ++ line ∷ rest) ≡ asking_lines done ++ (length done + 1, word_texts line) ∷ asking_from (length done + 1 + 1) rest =
     asking_lines-append done (line ∷ rest) ∙ ap (λ ls. asking_lines done ++ ls) (asking_first (length done + 1) line rest e) in
@@ -57,11 +60,11 @@ asked_at done line rest script h e =
 
 -- no test holds of a line of a script
 script_passes : (done : List Part) (line : Part) (rest : List Part) (script : List Line) → AreScript (done ++ line ∷ rest) script
-    → first_fault (line_tests (length done + 1) (count_by is_product done + weight line) line) ≡ None
+    → first_that_holds (line_tests (length done + 1) (count_by is_product done + weight line) line) ≡ None
 script_passes done line rest script h =
     let few = h.few_lines in
-    let products : count_by is_product done + (weight line + count_by is_product rest) ≤ 64 =
-    subst (λ n. n ≤ 64) (sym (products_same (done ++ line ∷ rest) script h) ∙ sum_by-append weight done (line ∷ rest) ∙ ap (λ n. count_by is_product done + n) (sum_by-cons weight line rest)) h.few_products in
+    let products : count_by is_product done + (weight line + count_by is_product rest) ≤ MOST_PRODUCTS =
+    subst (λ n. n ≤ MOST_PRODUCTS) (sym (products_same (done ++ line ∷ rest) script h) ∙ sum_by-append weight done (line ∷ rest) ∙ ap (λ n. count_by is_product done + n) (sum_by-cons weight line rest)) h.few_products in
     line_passes (length done + 1) (count_by is_product done + weight line) line (omega (arith, length-append done (line ∷ rest)))
     (record { bytes = allowed_at done line rest h.bytes; words = asked_at done line rest script h }) (λ _. omega arith)
 
@@ -77,6 +80,9 @@ no_faults done (line ∷ rest) script h =
 
 pub script_has_no_fault : ScriptHasNoFault
 script_has_no_fault text script h = ap (λ faults. slice_get faults 0) (faults_of-from (lines_of text) ∙ no_faults [] (lines_of text) script h.lines)
+
+pub fault_has_no_script : FaultHasNoScript
+fault_has_no_script text fault e script h = none-some fault (sym (script_has_no_fault text script h) ∙ e)
 
 -- a line of which no test holds asks for an act or for nothing
 passing_line : (number products : ℕ) (line : Part) → IsPassed number (products + 1) line → (act : Option Act) × IsReadAt number products line act
@@ -98,10 +104,10 @@ passing_line number products line h = go (asks (word_texts line)) refl
 script_or_fault_from : (done rest : List Part) (script : List Line) → AreRead done script → ((s : List Line) × AreScript (done ++ rest) s) ⊎ IsSome (slice_get (faults_of (done ++ rest)) 0)
 script_or_fault_from done [] script h = inl (script, subst (λ ls. AreScript ls script) (sym (append-nil done)) h.is)
 script_or_fault_from done (line ∷ rest) script h =
-    go (first_fault (line_tests (length done + 1) (product_count script + 1) line)) refl
+    go (first_that_holds (line_tests (length done + 1) (product_count script + 1) line)) refl
     (λ next read. subst (λ ls. ((s : List Line) × AreScript ls s) ⊎ IsSome (slice_get (faults_of ls) 0)) (append_assoc done (line ∷ []) rest) (script_or_fault_from (done ++ line ∷ []) rest next read))
   where
-    go : (o : Option ScriptWord) → first_fault (line_tests (length done + 1) (product_count script + 1) line) ≡ o
+    go : (o : Option ScriptWord) → first_that_holds (line_tests (length done + 1) (product_count script + 1) line) ≡ o
         → ((next : List Line) → AreRead (done ++ line ∷ []) next → ((s : List Line) × AreScript (done ++ line ∷ rest) s) ⊎ IsSome (slice_get (faults_of (done ++ line ∷ rest)) 0))
         → ((s : List Line) × AreScript (done ++ line ∷ rest) s) ⊎ IsSome (slice_get (faults_of (done ++ line ∷ rest)) 0)
     go (Some what) e rec = inr (ap is_some (found done script line rest what h e))

@@ -9,12 +9,14 @@ use Rattle.std.proofs.lemmas.List.Sums.{sum_by_push, sum_by-cons}
 use Rattle.std.proofs.lemmas.List.Elements.{filter-append}
 use Rattle.std.proofs.lemmas.Slice.Zip.{all_zipped_more}
 use Rattle.text_lines.specs.Part.{Part}
+use Rattle.pair_colours.specs.Tests.{first_that_holds}
 use Rattle.script_text.specs.declared.acts.Act.{Act}
+use Rattle.script_text.specs.declared.limits.TheConstants.{MOST_LINES, MOST_PRODUCTS}
 use Rattle.script_text.specs.declared.acts.Line.{Line}
 use Rattle.script_text.specs.declared.faults.ScriptWord.{ScriptWord}
 use Rattle.script_text.specs.declared.faults.ScriptWord.TheVariants.{TooManyLines, TooManyProducts}
 use Rattle.script_text.specs.Answers.{IsAskedBy, IsRead, IsReadAt, adds_product}
-use Rattle.script_text.specs.LineFaults.{word_texts, asks, is_script_byte, text_tests, line_tests, is_product, products_to, first_fault, fault_at, faults_of}
+use Rattle.script_text.specs.LineFaults.{word_texts, asks, is_script_byte, text_tests, line_tests, is_product, products_to, fault_at, faults_of}
 use Rattle.script_text.specs.Script.{asking_lines, IsLine, takes_product, product_count, AreScript}
 use Rattle.script_text.proofs.LineLemmas.{act_product, silent_product, read_fine, read_product, line_passes}
 
@@ -26,7 +28,7 @@ weight line = cond (is_product line) 1 0
 abbrev pub faults_from : ℕ → ℕ → List Part → List (ℕ × ScriptWord)
 faults_from number products [] = []
 faults_from number products (line ∷ lines) =
-    cons_option (option_map (λ what. (number, what)) (first_fault (line_tests number (products + weight line) line)))
+    cons_option (option_map (λ what. (number, what)) (first_that_holds (line_tests number (products + weight line) line)))
     (faults_from (number + 1) (products + weight line) lines)
 
 pub count_by-one : (lines : List Part) (line : Part) → count_by is_product (lines ++ line ∷ []) ≡ count_by is_product lines + weight line
@@ -54,9 +56,9 @@ faults_of_rest done (line ∷ rest) =
     subst (λ whole. Rest whole number (count_by is_product done + weight line)) (one_more done rest line)
     (subst (λ n. Rest ((done ++ line ∷ []) ++ rest) n (count_by is_product done + weight line)) (length_push done line)
     (subst (λ p. Rest ((done ++ line ∷ []) ++ rest) (length (done ++ line ∷ [])) p) (count_by-one done line) (faults_of_rest (done ++ line ∷ []) rest))) in
-    ap (λ p. cons_option (option_map (λ what. (number, what)) (first_fault (line_tests number p line))) (filter_map (fault_at (done ++ line ∷ rest)) (enumerate_from (number + 1) rest)))
+    ap (λ p. cons_option (option_map (λ what. (number, what)) (first_that_holds (line_tests number p line))) (filter_map (fault_at (done ++ line ∷ rest)) (enumerate_from (number + 1) rest)))
     (products_here done rest line)
-    ∙ ap (λ faults. cons_option (option_map (λ what. (number, what)) (first_fault (line_tests number (count_by is_product done + weight line) line))) faults) tail
+    ∙ ap (λ faults. cons_option (option_map (λ what. (number, what)) (first_that_holds (line_tests number (count_by is_product done + weight line) line))) faults) tail
 
 pub faults_of-from : (lines : List Part) → faults_of lines ≡ faults_from 1 0 lines
 faults_of-from lines = faults_of_rest [] lines
@@ -73,7 +75,7 @@ faults_behind number products [] ys e =
     let p : products ≡ products + 0 = omega arith in
     ap (λ k. faults_from k products ys) n ∙ ap (λ k. faults_from (number + 0) k ys) p
 faults_behind number products (x ∷ xs) ys e =
-    let parts = cons_nil (option_map (λ what. (number, what)) (first_fault (line_tests number (products + weight x) x))) (faults_from (number + 1) (products + weight x) xs) e in
+    let parts = cons_nil (option_map (λ what. (number, what)) (first_that_holds (line_tests number (products + weight x) x))) (faults_from (number + 1) (products + weight x) xs) e in
     let n : number + 1 + length xs ≡ number + suc (length xs) = omega arith in
     let p : products + weight x + count_by is_product xs ≡ products + count_by is_product (x ∷ xs) = omega (arith, sum_by-cons weight x xs) in
     ap (λ o. cons_option o (faults_from (number + 1) (products + weight x) (xs ++ ys))) parts.0
@@ -195,11 +197,11 @@ products_more script number None = ap product_count (append-nil script) ∙ add_
     add_zero n = omega arith
 products_more script number (Some act) = sum_by_push (λ (l : Line). cond (takes_product l.act) 1 0) script (record { number = number; act = act })
 
-bit_below : (b : Bool) (n : ℕ) → (b ≡ true → n < 64) → n ≤ 64 → n + cond b 1 0 ≤ 64
+bit_below : (b : Bool) (n : ℕ) → (b ≡ true → n < MOST_PRODUCTS) → n ≤ MOST_PRODUCTS → n + cond b 1 0 ≤ MOST_PRODUCTS
 bit_below true n f h = let below = f refl in omega arith
 bit_below false n f h = omega arith
 
-bit_is : (b : Bool) (n : ℕ) → (b ≡ true → n < 64) → b ≡ true → n + cond b 1 0 ≤ 64
+bit_is : (b : Bool) (n : ℕ) → (b ≡ true → n < MOST_PRODUCTS) → b ≡ true → n + cond b 1 0 ≤ MOST_PRODUCTS
 bit_is true n f e = let below = f refl in omega arith
 bit_is false n f e = absurd (false≢true e)
 
@@ -209,36 +211,36 @@ pub read_more : (done : List Part) (script : List Line) (line : Part) (act : Opt
 read_more done script line act so_far read =
     let here = read.read in
     let same = products_same done script so_far.is in
-    let passes : first_fault (line_tests (length done + 1) (count_by is_product done + weight line) line) ≡ None =
+    let passes : first_that_holds (line_tests (length done + 1) (count_by is_product done + weight line) line) ≡ None =
     line_passes (length done + 1) (count_by is_product done + weight line) line read.few_lines (read_fine line act here)
-    (λ product. subst (λ n. n ≤ 64) (sym (ap (λ n. n + weight line) same ∙ ap (λ n. product_count script + n) (weight_of line act here)))
+    (λ product. subst (λ n. n ≤ MOST_PRODUCTS) (sym (ap (λ n. n + weight line) same ∙ ap (λ n. product_count script + n) (weight_of line act here)))
     (bit_is (adds_product act) (product_count script) read.few_products (sym (read_product line act here) ∙ product))) in
     record {
       is = record {
         asked = asked_more done script line act so_far.is.asked here.asked;
-        few_lines = subst (λ n. n ≤ 10000) (sym (length_push done line)) read.few_lines;
+        few_lines = subst (λ n. n ≤ MOST_LINES) (sym (length_push done line)) read.few_lines;
         bytes = allowed_more done line so_far.is.bytes here.bytes;
-        few_products = subst (λ n. n ≤ 64) (sym (products_more script (length done + 1) act)) (bit_below (adds_product act) (product_count script) read.few_products so_far.is.few_products);
+        few_products = subst (λ n. n ≤ MOST_PRODUCTS) (sym (products_more script (length done + 1) act)) (bit_below (adds_product act) (product_count script) read.few_products so_far.is.few_products);
       };
       clean = faults_next done line [] so_far.clean ∙ ap (λ o. cons_option (option_map (λ what. (length done + 1, what)) o) []) passes;
     }
 
 -- the test of product lines is the same whether a line that is none is counted or not
-same_count : (product : Bool) (products : ℕ) → (product && ltb 64 (products + 1)) ≡ (product && ltb 64 (products + cond product 1 0))
+same_count : (product : Bool) (products : ℕ) → (product && ltb MOST_PRODUCTS (products + 1)) ≡ (product && ltb MOST_PRODUCTS (products + cond product 1 0))
 same_count true products = refl
 same_count false products = refl
 
-counted : (number products : ℕ) (line : Part) → first_fault (line_tests number (products + 1) line) ≡ first_fault (line_tests number (products + weight line) line)
+counted : (number products : ℕ) (line : Part) → first_that_holds (line_tests number (products + 1) line) ≡ first_that_holds (line_tests number (products + weight line) line)
 counted number products line =
-    ap (λ failed. first_fault ((TooManyLines, ltb 10000 number) ∷ text_tests line ++ (TooManyProducts, failed) ∷ [])) (same_count (is_product line) products)
+    ap (λ failed. first_that_holds ((ltb MOST_LINES number, TooManyLines) ∷ text_tests line ++ (failed, TooManyProducts) ∷ [])) (same_count (is_product line) products)
 
 -- the first line that has a fault
 pub found : (done : List Part) (script : List Line) (line : Part) (rest : List Part) (what : ScriptWord) → AreRead done script
-    → first_fault (line_tests (length done + 1) (product_count script + 1) line) ≡ Some what → slice_get (faults_of (done ++ line ∷ rest)) 0 ≡ Some (length done + 1, what)
+    → first_that_holds (line_tests (length done + 1) (product_count script + 1) line) ≡ Some what → slice_get (faults_of (done ++ line ∷ rest)) 0 ≡ Some (length done + 1, what)
 found done script line rest what so_far failed =
     let same = products_same done script so_far.is in
-    let fails : first_fault (line_tests (length done + 1) (count_by is_product done + weight line) line) ≡ Some what =
-    ap (λ n. first_fault (line_tests (length done + 1) (n + weight line) line)) same ∙ sym (counted (length done + 1) (product_count script) line) ∙ failed in
+    let fails : first_that_holds (line_tests (length done + 1) (count_by is_product done + weight line) line) ≡ Some what =
+    ap (λ n. first_that_holds (line_tests (length done + 1) (n + weight line) line)) same ∙ sym (counted (length done + 1) (product_count script) line) ∙ failed in
     ap (λ faults. slice_get faults 0)
     (faults_of-from (done ++ line ∷ rest) ∙ faults_next done line rest so_far.clean
     ∙ ap (λ o. cons_option (option_map (λ w. (length done + 1, w)) o) (faults_from (length done + 1 + 1) (count_by is_product done + weight line) rest)) fails)

@@ -10,15 +10,17 @@ use Rattle.std.proofs.lemmas.List.Elements.{All-nil, All-cons}
 use Rattle.text_lines.specs.Lines.{lines_of}
 use Rattle.text_lines.specs.Part.{Part}
 use Rattle.text_lines.proofs.Within.{IsBetween, lines_of-within}
+use Rattle.pair_colours.specs.Tests.{first_that_holds}
 use Rattle.script_text.specs.declared.acts.Act.{Act}
 use Rattle.script_text.specs.declared.acts.Act.TheVariants as acts
 use Rattle.script_text.specs.declared.acts.Line.{Line}
 use Rattle.script_text.specs.declared.faults.LineFault.{LineFault}
+use Rattle.script_text.specs.declared.limits.TheConstants.{MOST_SCRIPT}
 use Rattle.script_text.specs.declared.faults.LineFault.TheVariants.{Word, NoMemory}
 use Rattle.script_text.specs.declared.faults.ScriptFault.TheVariants.{Text}
 use Rattle.script_text.specs.declared.faults.ScriptWord.{ScriptWord}
 use Rattle.script_text.specs.Answers.{IsReadAt, adds_product, IsFirstFault, at_line}
-use Rattle.script_text.specs.LineFaults.{line_tests, first_fault, faults_of, script_fault}
+use Rattle.script_text.specs.LineFaults.{line_tests, faults_of, script_fault}
 use Rattle.script_text.specs.Grammar.{AsksFor}
 use Rattle.script_text.specs.Script.{IsLine, IsScript, KeepsLimit, product_count}
 use Rattle.script_text.proofs.ScriptLines.{AreRead, read_more, found, products_more, line_for, faults_of-from}
@@ -49,7 +51,7 @@ line_at lines place line rest e =
     }
 
 -- a line of a script's text is short
-pub short_line : (text : List ℕ) (place : ℕ) (line : Part) (rest : List Part) → IsLineAt (lines_of text) place line rest → length text ≤ 1048576 → length line.bytes < 2 ^ 31
+pub short_line : (text : List ℕ) (place : ℕ) (line : Part) (rest : List Part) → IsLineAt (lines_of text) place line rest → length text ≤ MOST_SCRIPT → length line.bytes < 2 ^ 31
 short_line text place line rest at short =
     let inside = at.within in
     let between : IsBetween 0 (length text) line = subst (λ l. IsBetween 0 (length text) l) (at.here line) (lines_of-within text place line (omega arith)) in
@@ -79,12 +81,12 @@ count_next script new number products byte act product count e f g =
 -- the line that has a fault is the first
 pub fails_at : (text : List ℕ) (place : ℕ) (line : Part) (rest : List Part) (script : List Line) (products : ℕ) (what : ScriptWord) → IsLineAt (lines_of text) place line rest
     → AreRead (take place (lines_of text)) script → products ≡ product_count script
-    → first_fault (line_tests (place + 1) (products + 1) line) ≡ Some what → script_fault text ≡ Some (place + 1, what)
+    → first_that_holds (line_tests (place + 1) (products + 1) line) ≡ Some what → script_fault text ≡ Some (place + 1, what)
 fails_at text place line rest script products what at so_far count failed =
     let lines = lines_of text in
     let number : length (take place lines) + 1 ≡ place + 1 = ap (λ n. n + 1) at.before in
-    let here : first_fault (line_tests (length (take place lines) + 1) (product_count script + 1) line) ≡ Some what =
-    ap (λ n. first_fault (line_tests n (product_count script + 1) line)) number ∙ ap (λ p. first_fault (line_tests (place + 1) (p + 1) line)) (sym count) ∙ failed in
+    let here : first_that_holds (line_tests (length (take place lines) + 1) (product_count script + 1) line) ≡ Some what =
+    ap (λ n. first_that_holds (line_tests n (product_count script + 1) line)) number ∙ ap (λ p. first_that_holds (line_tests (place + 1) (p + 1) line)) (sym count) ∙ failed in
     ap (λ ls. slice_get (faults_of ls) 0) at.whole ∙ found (take place lines) script line rest what so_far here ∙ ap (λ n. Some (n, what)) number
 
 pub fault_is : (text : List ℕ) (place : ℕ) (line : Part) (rest : List Part) (script : List Line) (products : ℕ) → IsLineAt (lines_of text) place line rest

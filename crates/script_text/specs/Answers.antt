@@ -3,6 +3,7 @@ use Rattle.std.specs.Prelude.{◌≡◌, ℕ, ◌<◌, ◌≤◌, Bool, true, fa
 use Rattle.std.specs.Borrow.{Bor}
 use Rattle.std.specs.List.{list_all}
 use Rattle.text_lines.specs.Part.{Part}
+use Rattle.pair_colours.specs.Tests.{first_that_holds}
 use Rattle.script_text.specs.declared.acts.Act.{Act}
 use Rattle.script_text.specs.declared.faults.LineFault.{LineFault}
 use Rattle.script_text.specs.declared.faults.LineFault.TheVariants.{Word, NoMemory}
@@ -11,7 +12,7 @@ use Rattle.script_text.specs.declared.faults.ScriptFault.TheVariants as script
 use Rattle.script_text.specs.declared.faults.ScriptWord.{ScriptWord}
 use Rattle.script_text.specs.declared.limits.TheConstants.{MOST_LINES, MOST_PRODUCTS}
 use Rattle.script_text.specs.Grammar.{AsksFor}
-use Rattle.script_text.specs.LineFaults.{word_texts, asks, is_script_byte, first_fault}
+use Rattle.script_text.specs.LineFaults.{Test, word_texts, asks, is_script_byte}
 use Rattle.script_text.specs.Script.{takes_product}
 
 -- the fault of a line, as that of a script
@@ -24,8 +25,8 @@ abbrev pub texts : List (Bor (List ℕ)) → List (List ℕ)
 texts words = map (λ word. word.now) words
 
 -- the fault is want of memory or that of the first of these tests that holds
-abbrev pub IsFirstFault : List (ScriptWord × Bool) → LineFault → Type 0
-IsFirstFault tests (Word what) = first_fault tests ≡ Some what
+abbrev pub IsFirstFault : List Test → LineFault → Type 0
+IsFirstFault tests (Word what) = first_that_holds tests ≡ Some what
 IsFirstFault tests NoMemory = ⊤
 
 -- the fault is want of memory or this one, and it comes only where its test holds

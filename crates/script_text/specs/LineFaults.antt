@@ -1,12 +1,13 @@
 -- What can be wrong with a line: one test for each fault, which holds where the fault is there. The order of the tests is TooManyLines,
 -- BadByte, UnknownWord, WrongCount, BadNumber, BadLimit, BadName, TooManyProducts. (The faults are this project's own.)
-use Rattle.std.specs.Prelude.{ℕ, ◌==◌, ◌&&◌, ◌||◌, not, nat_le, nat_lt, if◌then◌else◌, Bool, true, false, List, [], ◌∷◌, ◌++◌, length, map, take, slice_get, slice_index, count_by, find, codes, bytes_eq, Option, is_some, option_map}
+use Rattle.std.specs.Prelude.{ℕ, ◌==◌, ◌&&◌, ◌||◌, not, nat_le, nat_lt, if◌then◌else◌, Bool, true, false, List, [], ◌∷◌, ◌++◌, length, map, take, slice_get, slice_index, count_by, codes, bytes_eq, Option, is_some, option_map}
 use Rattle.std.specs.List.{list_all, filter_map, enumerate_from}
 use Rattle.std.specs.Option.{option_map_or}
 use Rattle.text_lines.specs.Lines.{lines_of}
 use Rattle.text_lines.specs.Number.{number_of}
 use Rattle.text_lines.specs.Part.{Part}
 use Rattle.text_lines.specs.Words.{words_of}
+use Rattle.pair_colours.specs.Tests.{first_that_holds}
 use Rattle.script_text.specs.declared.faults.ScriptWord.{ScriptWord}
 use Rattle.script_text.specs.declared.faults.ScriptWord.TheVariants.{TooManyLines, BadByte, UnknownWord, WrongCount, BadNumber, BadLimit, BadName, TooManyProducts}
 use Rattle.script_text.specs.declared.limits.TheConstants.{MOST_LINES, MOST_MERGINGS, MOST_PRODUCTS}
@@ -50,30 +51,34 @@ has_bad_name Direct (word ∷ words) = bytes_eq word (codes "-")
 has_bad_name Wreath (word ∷ words) = bytes_eq word (codes "-")
 has_bad_name _ _ = false
 
+-- a test, with the word of its fault
+abbrev pub Test : Type 0
+Test = Bool × ScriptWord
+
 -- the tests of the words behind a keyword where they are known and as many as it allows
-abbrev pub content_tests : Keyword → List (List ℕ) → List (ScriptWord × Bool)
+abbrev pub content_tests : Keyword → List (List ℕ) → List Test
 content_tests keyword words =
-    (BadNumber, has_bad_number keyword words)
-    ∷ (BadLimit, has_bad_limit keyword words)
-    ∷ (BadName, has_bad_name keyword words)
+    (has_bad_number keyword words, BadNumber)
+    ∷ (has_bad_limit keyword words, BadLimit)
+    ∷ (has_bad_name keyword words, BadName)
     ∷ []
 
 -- the tests of the words behind a keyword
-abbrev pub keyword_tests : Keyword → List (List ℕ) → List (ScriptWord × Bool)
+abbrev pub keyword_tests : Keyword → List (List ℕ) → List Test
 keyword_tests keyword words =
-    (UnknownWord, has_unknown_word keyword words)
-    ∷ (WrongCount, not (allows keyword (length words)))
+    (has_unknown_word keyword words, UnknownWord)
+    ∷ (not (allows keyword (length words)), WrongCount)
     ∷ content_tests keyword words
 
 -- the tests of the words of a line
-abbrev pub word_tests : List (List ℕ) → List (ScriptWord × Bool)
+abbrev pub word_tests : List (List ℕ) → List Test
 word_tests [] = []
-word_tests (first ∷ words) = option_map_or (λ keyword. keyword_tests keyword words) (keyword_of first) ((UnknownWord, true) ∷ [])
+word_tests (first ∷ words) = option_map_or (λ keyword. keyword_tests keyword words) (keyword_of first) ((true, UnknownWord) ∷ [])
 
 -- the tests of a line by itself; of a blank line or a comment only the first
-abbrev pub text_tests : Part → List (ScriptWord × Bool)
+abbrev pub text_tests : Part → List Test
 text_tests line =
-    (BadByte, not (list_all is_script_byte line.bytes))
+    (not (list_all is_script_byte line.bytes), BadByte)
     ∷ (if asks (word_texts line) then word_tests (word_texts line) else [])
 
 -- the words are of a product line, which takes the relation of a file
@@ -85,15 +90,11 @@ abbrev pub is_product : Part → Bool
 is_product line = starts_product (word_texts line)
 
 -- the tests of a line with this number, where the text has so many product lines up to it
-abbrev pub line_tests : ℕ → ℕ → Part → List (ScriptWord × Bool)
+abbrev pub line_tests : ℕ → ℕ → Part → List Test
 line_tests number products line =
-    (TooManyLines, nat_lt MOST_LINES number)
+    (nat_lt MOST_LINES number, TooManyLines)
     ∷ text_tests line
-    ++ (TooManyProducts, is_product line && nat_lt MOST_PRODUCTS products) ∷ []
-
--- the fault of the first test that holds
-abbrev pub first_fault : List (ScriptWord × Bool) → Option ScriptWord
-first_fault tests = option_map (λ test. test.0) (find (λ test. test.1) tests)
+    ++ (is_product line && nat_lt MOST_PRODUCTS products, TooManyProducts) ∷ []
 
 -- how many product lines the text has up to the line with this number
 abbrev pub products_to : List Part → ℕ → ℕ
@@ -101,7 +102,7 @@ products_to lines number = count_by is_product (take number lines)
 
 -- the number of a line that has a fault, with its first fault
 abbrev pub fault_at : List Part → ℕ × Part → Option (ℕ × ScriptWord)
-fault_at lines (number, line) = option_map (λ what. (number, what)) (first_fault (line_tests number (products_to lines number) line))
+fault_at lines (number, line) = option_map (λ what. (number, what)) (first_that_holds (line_tests number (products_to lines number) line))
 
 -- those of all lines that have one, in order
 abbrev pub faults_of : List Part → List (ℕ × ScriptWord)

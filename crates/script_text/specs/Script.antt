@@ -1,11 +1,12 @@
 -- What a script is: the reading of a text by the grammar, within the limits.
-use Rattle.std.specs.Prelude.{◌≡◌, ℕ, ◌≤◌, ◌⊎◌, IsTrue, IsSome, Bool, true, false, List, length, map, filter, count_by, None, ⊤}
+use Rattle.std.specs.Prelude.{◌≡◌, ℕ, ◌≤◌, ◌⊎◌, IsTrue, IsSome, Bool, true, false, List, length, map, filter, count_by, Some, None, ⊤}
 use Rattle.std.specs.List.{AllZip, AllByRecursion, list_all, enumerate_from}
 use Rattle.text_lines.specs.Lines.{lines_of}
 use Rattle.text_lines.specs.Part.{Part}
 use Rattle.script_text.specs.declared.acts.Act.{Act}
 use Rattle.script_text.specs.declared.acts.Act.TheVariants.{Direct, Wreath, Mergings}
 use Rattle.script_text.specs.declared.acts.Line.{Line}
+use Rattle.script_text.specs.declared.faults.ScriptWord.{ScriptWord}
 use Rattle.script_text.specs.declared.limits.TheConstants.{MOST_LINES, MOST_PRODUCTS}
 use Rattle.script_text.specs.Grammar.{AsksFor, IsLimit}
 use Rattle.script_text.specs.LineFaults.{word_texts, asks, is_script_byte, script_fault}
@@ -53,6 +54,10 @@ ScriptIsUnique = (text : List ℕ) (script other : List Line) → IsScript text 
 abbrev pub ScriptOrFault : Type 0
 ScriptOrFault = (text : List ℕ) → ((script : List Line) × IsScript text script) ⊎ IsSome (script_fault text)
 
--- and not both
+-- a script has no fault
 abbrev pub ScriptHasNoFault : Type 0
 ScriptHasNoFault = (text : List ℕ) (script : List Line) → IsScript text script → script_fault text ≡ None
+
+-- and a text with a fault is no script
+abbrev pub FaultHasNoScript : Type 0
+FaultHasNoScript = (text : List ℕ) (fault : ℕ × ScriptWord) → script_fault text ≡ Some fault → (script : List Line) → ¬ IsScript text script

@@ -10,7 +10,7 @@ use thiserror::Error;
 /// The word for a line that is refused, in the order in which one line is tested.
 #[derive(Clone, Copy, Debug, PartialEq, Eq)]
 pub enum ScriptWord {
-    /// The script has more than 10,000 lines.
+    /// The script has more lines than `MOST_LINES`.
     TooManyLines,
     /// A byte that is neither a tab nor a printable character of ASCII.
     BadByte,
@@ -24,8 +24,28 @@ pub enum ScriptWord {
     BadLimit,
     /// The name of a file is `-`, which stands for standard input.
     BadName,
-    /// The script has more product lines than allowed.
+    /// The script has more product lines than `MOST_PRODUCTS`.
     TooManyProducts,
+}
+
+impl ScriptWord {
+    ghost use Rattle.script_text.specs.ScriptWord.{script_word};
+
+    /// The word of the fault, which is the name of its variant.
+    pub fn as_str(self) -> &'static str
+        ensures { result.now ≡ script_word self }
+    {
+        match self {
+            ScriptWord::TooManyLines => "TooManyLines",
+            ScriptWord::BadByte => "BadByte",
+            ScriptWord::UnknownWord => "UnknownWord",
+            ScriptWord::WrongCount => "WrongCount",
+            ScriptWord::BadNumber => "BadNumber",
+            ScriptWord::BadLimit => "BadLimit",
+            ScriptWord::BadName => "BadName",
+            ScriptWord::TooManyProducts => "TooManyProducts",
+        }
+    }
 }
 
 /// Why a text was not read as a script.

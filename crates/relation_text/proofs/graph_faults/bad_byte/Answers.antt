@@ -3,7 +3,7 @@ use Rattle.std.specs.Prelude.{not}
 use Rattle.std.proofs.lemmas.Iterator.{YieldsList-from_slice}
 use Rattle.std.proofs.lemmas.Iterator.Search.{position_from_yields_List}
 use Rattle.relation_text.specs.Faults.{is_graph_byte}
-use Rattle.relation_text.proofs.TestLemmas.{found_first}
+use Rattle.relation_text.proofs.AnyLemmas.{found_first}
 use Rattle.relation_text.proofs.graph_faults.bad_byte.Goals as goal
 
 pub returns-clause-none : goal.returns-clause-none

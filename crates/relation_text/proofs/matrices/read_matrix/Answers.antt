@@ -1,6 +1,7 @@
 use Rattle.std.proofs.Common.{Some, sym, ap, ◌∙◌, arith}
 use Rattle.text_lines.specs.Views.{part_of}
-use Rattle.relation_text.specs.Faults.{first_fault, row_tests}
+use Rattle.pair_colours.specs.Tests.{first_that_holds}
+use Rattle.relation_text.specs.Faults.{row_tests}
 use Rattle.relation_text.proofs.MatrixLoops.{has_row, rows_fault-few, rows_fault-here, ReadsRows-none, ReadsRows-more, matrix_fault-rows}
 use Rattle.relation_text.proofs.SameColours.{IsColouring-filled}
 use Rattle.relation_text.proofs.matrices.read_matrix.Goals as goal
@@ -22,7 +23,7 @@ returns-in-Some-read_row-clause-fault c =
     rw c.text_fault-in-Some-read_row.ensures
     (matrix_fault-rows c.args.len (part_of c.args.head) c.args.left c.in-Ok.size c.in-Ok.ensures.good c.in-Ok.ensures.size
     ∙ rows_fault-here c.args.len c.in-Ok.size c.args.left c.loop-x.colouring c.loop-x.x c.loop-x.left c.next.new.self (part_of c.in-Some.row) c.in-Some-read_row.fault c.loop-x.invariant c.in-Some.ensures.steps c.loop-x-test.true
-    (c.in-Some-read_row.ensures.fault ∙ ap (λ n. first_fault (row_tests 0 n (Some (part_of c.in-Some.row)))) same))
+    (c.in-Some-read_row.ensures.fault ∙ ap (λ n. first_that_holds (row_tests 0 n (Some (part_of c.in-Some.row)))) same))
 
 pub loop-x-preserved : goal.loop-x-preserved
 loop-x-preserved c =
@@ -30,7 +31,7 @@ loop-x-preserved c =
     let row = c.in_default-read_row.ensures.row in
     let others = c.in_default-read_row.ensures.others in
     ReadsRows-more c.args.len c.in-Ok.size c.args.left c.loop-x.colouring c.read_row.new.colouring c.loop-x.x c.loop-x.left c.next.new.self (part_of c.in-Some.row) c.loop-x.invariant c.in-Some.ensures.steps c.loop-x-test.true
-    (sym (ap (λ n. first_fault (row_tests 0 n (Some (part_of c.in-Some.row)))) same) ∙ sym c.in_default-read_row.ensures.fault)
+    (sym (ap (λ n. first_that_holds (row_tests 0 n (Some (part_of c.in-Some.row)))) same) ∙ sym c.in_default-read_row.ensures.fault)
     c.in_default-read_row.ensures.colouring (c.in_default-read_row.ensures.points ∙ same)
     (λ v h. row v (omega (arith, h)))
     (λ u v h l ne. others u v (omega (arith, h)) (omega (arith, l)) ne)

@@ -6,13 +6,12 @@ use Rattle.std.proofs.lemmas.List.Elements.{All-push, All-take}
 use Rattle.pair_colours.specs.Colouring.{PairColouring, IsRawColouring}
 use Rattle.pair_colours.specs.Closure.{IsClosureOf}
 use Rattle.pair_colours.specs.Tests.{first_that_holds}
-use Rattle.pair_colours.proofs.Places.{Refines-refl}
 use Rattle.recolour_bench.specs.declared.edits.EditFault.TheVariants.{HistoryFull}
 use Rattle.recolour_bench.specs.declared.history.TheConstants.{MOST_POSITION}
 use Rattle.recolour_bench.specs.declared.kept.Kept.{Kept}
-use Rattle.recolour_bench.specs.Edits.{Edit, Adopt}
+use Rattle.recolour_bench.specs.Edits.{Edit}
 use Rattle.recolour_bench.specs.Recolouring.{edited}
-use Rattle.recolour_bench.specs.History.{Entry, History, IsHistory, Starts, no_entry, entry_at, present}
+use Rattle.recolour_bench.specs.History.{Entry, History, no_entry, entry_at}
 use Rattle.recolour_bench.specs.Steps.{edit_tests, edit_refusal, EditStep}
 use Rattle.recolour_bench.specs.Kept.{entry_of, history_of, IsKeptHistory}
 use Rattle.recolour_bench.proofs.Stepping.{IsHistory-edited}
@@ -44,7 +43,7 @@ take-insert {X} xs i n x e l =
     ap (λ k. take k (take i xs ++ x ∷ drop i xs)) (e ∙ ap (λ k. k + 1) (sym len)) ∙ take-append-add (take i xs) (x ∷ drop i xs) 1
 
 -- the first test that holds refuses the edit
-pub edit_refusal-kept : (kept : List Kept) (position : ℕ) (now : Kept) (e : Edit) → IsPresentEntry (history_of kept position) now
+edit_refusal-kept : (kept : List Kept) (position : ℕ) (now : Kept) (e : Edit) → IsPresentEntry (history_of kept position) now
     → edit_refusal (history_of kept position) now.closure e ≡ first_that_holds (edit_tests now.raw now.closure e ++ (position == MOST_POSITION, HistoryFull) ∷ [])
 edit_refusal-kept kept position now e here =
     ap (λ (a : Entry). first_that_holds (edit_tests a.colouring now.closure e ++ (position == MOST_POSITION, HistoryFull) ∷ [])) here.is
@@ -77,17 +76,6 @@ IsKeptHistory-edited kept new position entry e K k step closure put = record {
   where
     Closed : Kept → Type 0
     Closed a = IsClosureOf a.closure a.raw
-
--- the closure of a colouring is its own closure
-IsClosureOf-own : (K C : PairColouring) → IsClosureOf K C → IsClosureOf K K
-IsClosureOf-own K C k = record {
-  closure = record { colouring = k.closure.colouring; coherent = k.closure.coherent; refines = Refines-refl K; coarsest = λ Q q h r. r };
-  named = k.named;
-}
-
--- so what `adopt` makes is its own closure
-pub IsClosureOf-adopted : (C K next : PairColouring) (e : Edit) → IsClosureOf K C → next ≡ edited C K e → e ≡ Adopt → IsClosureOf next next
-IsClosureOf-adopted C K next e k made adopt = subst (λ D. IsClosureOf D D) (sym (made ∙ ap (edited C K) adopt)) (IsClosureOf-own K C k)
 
 pub none_from_not : {X : Type 0} (o : Option X) → ((x : X) → o ≡ Some x → ⊥) → o ≡ None
 none_from_not None h = refl

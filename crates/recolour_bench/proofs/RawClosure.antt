@@ -1,5 +1,5 @@
 -- The closure of a colouring within the limits is within them.
-use Rattle.std.proofs.Common.{◌==◌, ℕ, ◌*◌, ◌<◌, ◌≤◌, not, length, get_or, All, subst, arith}
+use Rattle.std.proofs.Common.{◌==◌, ℕ, ◌≤◌, not, get_or, All, subst, arith}
 use Rattle.std.proofs.lemmas.List.Elements.{All-map}
 use Rattle.std.proofs.lemmas.List.Sums.{prefix_len-le-length}
 use Rattle.std.proofs.lemmas.Nat.{mul-le}

@@ -1,11 +1,15 @@
 //! The program `cohere`: hands its words to `cohere_core::run`, over the files, the standard input
-//! and the two outputs of the machine.
+//! and the two outputs of the machine. The types of the sinks say which output is which.
+//!
+//! The run that is stored beside `src/` is refused: its relation is standard input, and its script,
+//! a bad one, a file named `_`. So it ends with a status of its own and writes no answer.
 #![tactic(auto)]
 
 use cohere_core::{Status, run};
 use scheme_io::{HostSink, HostStore};
 use std::env;
 use std::process::ExitCode;
+use std::rt::{Stderr, Stdout};
 
 /// The exit status where the machine does not give the program its words. No `Status` has it.
 const NO_WORDS: u8 = 7;
@@ -18,8 +22,8 @@ fn main(rt: HostRuntime) -> ExitCode {
         return ExitCode::from(Status::NoMemory.code());
     };
     let mut store = HostStore::new(&rt);
-    let mut out = HostSink::new(rt.stdout());
-    let mut err = HostSink::new(rt.stderr());
+    let mut out: HostSink<Stdout> = HostSink::new(rt.stdout());
+    let mut err: HostSink<Stderr> = HostSink::new(rt.stderr());
     let status = run(rt.alloc(), &words, &mut store, &mut out, &mut err);
     ExitCode::from(status.code())
 }

@@ -1,5 +1,7 @@
 pub mod Pieces
 pub mod Files
+pub mod BuiltActs
+mod RawClosures
 pub mod Runs
 pub mod OneOutput
 pub mod ReadRelations

@@ -3,15 +3,15 @@ use Rattle.std.specs.Prelude.{ℕ, List, take, Option}
 use Rattle.std.specs.Io.KnownBytes.{Appends}
 use Rattle.pair_colours.specs.Colouring.{PairColouring}
 use Rattle.scheme_io.specs.Files.{Files}
-use Rattle.recolour_bench.specs.History.{History, started}
+use Rattle.recolour_bench.specs.History.{History, Starts}
 use Rattle.script_text.specs.declared.acts.Line.{Line}
 use Rattle.cohere_core.specs.Answer.{Runs}
 use Rattle.cohere_core.specs.Task.{Task}
 use Rattle.cohere_core.specs.Inputs.{AreInputs}
 
--- t is the answers of the lines, along a run that starts at a history of the one colouring C
+-- t is the answers of the lines, along a run from a history that starts with C
 abbrev pub ScriptOutput : PairColouring → List Line → List ℕ → Type 0
-ScriptOutput C lines t = (end : History) × Runs (started C) lines end t
+ScriptOutput C lines t = (start : History) × Starts C start × (end : History) × Runs start lines end t
 
 -- t is an output of the task over these files
 pub record FileOutput (files : Files) (task : Task) (t : List ℕ) : Type 0 where

@@ -6,7 +6,7 @@
 //!   `queries`: one that changes nothing.
 //! * `running`: `run`, with the headline and the causes of its statuses (`status`).
 //! * `saying`: the lines on standard error.
-//! * `laws`: every script over every relation has exactly one output.
+//! * `laws`: every script has an output over every relation, and only one where it asks for no trace.
 //!
 //! The definitions stand in `specs/`: `Run` says what holds after each status, `Output` and
 //! `Answer` what is written, `Lines` what is said, and `Bad` which files are bad.

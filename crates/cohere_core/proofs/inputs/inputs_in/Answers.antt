@@ -1,4 +1,4 @@
-use Rattle.cohere_core.proofs.Runs.{built_from_none}
+use Rattle.cohere_core.proofs.BuiltActs.{built_from_none}
 use Rattle.cohere_core.proofs.inputs.inputs_in.Goals as goal
 
 pub returns-clause-built : goal.returns-clause-built

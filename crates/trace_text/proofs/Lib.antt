@@ -1,1 +1,9 @@
-
+pub mod Below
+pub mod Partitions
+pub mod Parting
+pub mod OneClass
+pub mod Ranks
+pub mod Splits
+pub mod Leads
+pub mod Reaching
+pub mod Meeting

@@ -7,3 +7,5 @@ pub mod Splits
 pub mod Leads
 pub mod Reaching
 pub mod Meeting
+pub mod Stages
+pub mod Conditions

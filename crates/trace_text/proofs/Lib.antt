@@ -9,3 +9,5 @@ pub mod Reaching
 pub mod Meeting
 pub mod Stages
 pub mod Conditions
+pub mod Decided
+pub mod Verdicts

@@ -87,7 +87,7 @@ step_from P h x y u v hx hy hu hv e differ = ⊎_elim
         (λ q. ne (sym (at_x (λ a b. triangles P a b i j)) ∙ q ∙ at_u (λ a b. triangles P a b i j)))
 
 -- pairs of one colour are alike
-abbrev AlikeWhereSame : PairColouring → ℕ → ℕ → ℕ → ℕ → Type 0
+abbrev pub AlikeWhereSame : PairColouring → ℕ → ℕ → ℕ → ℕ → Type 0
 AlikeWhereSame P x y u v = colour_at P x y ≡ colour_at P u v → Alike P x y u v
 
 alike_or_step : (P : PairColouring) → IsPartition P → (x y u v : ℕ) → x < P.size → y < P.size → u < P.size → v < P.size → AlikeWhereSame P x y u v ⊎ Found P
@@ -103,7 +103,7 @@ alike_or_step P h x y u v hx hy hu hv = ⊎_elim
 each_or : (A : ℕ → Type 0) (Q : Type 0) (n : ℕ) → ((k : ℕ) → k < n → A k ⊎ Q) → ((k : ℕ) → k < n → A k) ⊎ Q
 each_or A Q n h = ⊎_elim (λ all. inl all) (λ s. inr s.2) (each_below A (λ _. Q) n h)
 
-coherent_from : (P : PairColouring) → ((x : ℕ) → x < P.size → (y : ℕ) → y < P.size → (u : ℕ) → u < P.size → (v : ℕ) → v < P.size → AlikeWhereSame P x y u v) → Coherent P
+pub coherent_from : (P : PairColouring) → ((x : ℕ) → x < P.size → (y : ℕ) → y < P.size → (u : ℕ) → u < P.size → (v : ℕ) → v < P.size → AlikeWhereSame P x y u v) → Coherent P
 coherent_from P all = record {
   splits_diagonal = λ x u v hx hu hv e. (all x hx x hx u hu v hv e).diagonal.0 refl;
   closed_under_transpose = λ x y u v hx hy hu hv e. (all x hx y hy u hu v hv e).turned;

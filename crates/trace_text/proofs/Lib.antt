@@ -11,3 +11,6 @@ pub mod Stages
 pub mod Conditions
 pub mod Decided
 pub mod Verdicts
+pub mod StepLoops
+pub mod StageLoops
+mod Worked

@@ -4,4 +4,5 @@ pub mod Parts
 pub mod Chains
 pub mod Acceptance
 pub mod BadLines
-pub mod Laws
+pub mod Law
+pub mod Limits

@@ -1,6 +1,7 @@
 //! Laws over the definitions alone. Each is the contract of a function that does nothing.
 
-ghost use Rattle.trace_text.specs.Laws.{SplitIsPartition, SplitRefines, SplitRank, PartsOneClass, PartsTwoKeys, SplitKeepsCoherent, MeetIsNamedMeet, AcceptedIsClosure, ClosureOfMeet, StepsExist, VerdictExists, AcceptedHasNone, FirstBadLineIsUnique, AreLimits};
+ghost use Rattle.trace_text.specs.Law.{SplitIsPartition, SplitRefines, SplitRank, PartsOneClass, PartsTwoKeys, SplitKeepsCoherent, MeetIsNamedMeet, AcceptedIsClosure, ClosureOfMeet, StepsExist, VerdictExists, AcceptedHasNone, FirstBadLineIsUnique};
+ghost use Rattle.trace_text.specs.Limits.{AreLimits};
 
 /// A split keeps every coherent refinement below it: a coherent colouring that refines a
 /// partition refines each split of it.
@@ -52,7 +53,7 @@ pub fn verdicts()
     ensures unique { FirstBadLineIsUnique }
 {}
 
-/// The limits of traces.
+/// A trace has at most 67,108,864 bytes, and a step names numbers of at most 65,535.
 pub fn limits()
     ensures { AreLimits }
 {}

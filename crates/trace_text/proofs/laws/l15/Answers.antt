@@ -1,4 +1,4 @@
-use Rattle.trace_text.proofs.Reaching.{steps_exist}
+use Rattle.trace_text.proofs.LawProofs.{steps_exist}
 use Rattle.trace_text.proofs.laws.l15.Goals as goal
 
 pub returns : goal.returns

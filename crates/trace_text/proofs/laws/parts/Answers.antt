@@ -1,4 +1,4 @@
-use Rattle.trace_text.proofs.OneClass.{parts_one_class, parts_two_keys}
+use Rattle.trace_text.proofs.LawProofs.{parts_one_class, parts_two_keys}
 use Rattle.trace_text.proofs.laws.parts.Goals as goal
 
 pub returns-clause-one_class : goal.returns-clause-one_class

@@ -1,4 +1,4 @@
-use Rattle.trace_text.proofs.Verdicts.{verdict_exists, accepted_has_none, first_bad_line_is_unique}
+use Rattle.trace_text.proofs.LawProofs.{verdict_exists, accepted_has_none, first_bad_line_is_unique}
 use Rattle.trace_text.proofs.laws.verdicts.Goals as goal
 
 pub returns-clause-exists : goal.returns-clause-exists

@@ -4,7 +4,6 @@ use Rattle.pair_colours.specs.Colouring.{PairColouring, IsColouring, Refines, Is
 use Rattle.pair_colours.specs.Closure.{Coherent, IsClosureOf}
 use Rattle.pair_colours.specs.Naming.{rank_of, IsNamedMeet}
 use Rattle.trace_text.specs.declared.check_words.CheckWord.{CheckWord}
-use Rattle.trace_text.specs.declared.limits.TheConstants.{MOST_TRACE, MOST_STEP_NUMBER}
 use Rattle.trace_text.specs.declared.step_list.Step.{Step}
 use Rattle.trace_text.specs.declared.stage_list.Stage.{Stage}
 use Rattle.trace_text.specs.declared.stage_list.Claim.{Claim}
@@ -68,8 +67,3 @@ AcceptedHasNone = (claim : Claim) (line : ℕ) (word : CheckWord) → Accepts cl
 abbrev pub FirstBadLineIsUnique : Type 0
 FirstBadLineIsUnique = (claim : Claim) (line line2 : ℕ) (word word2 : CheckWord)
     → IsFirstBadLine claim line word → IsFirstBadLine claim line2 word2 → (line ≡ line2) × (word ≡ word2)
-
--- the limits of traces
-pub record AreLimits : Type 0 where
-  pub bytes : MOST_TRACE ≡ 67108864
-  pub step_number : MOST_STEP_NUMBER ≡ 65535

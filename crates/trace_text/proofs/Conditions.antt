@@ -12,7 +12,6 @@ use Rattle.trace_text.specs.Split.{Lead, split_of, partition_after}
 use Rattle.trace_text.specs.Chains.{StageEnd, Follows, stage_start, IsStageOf, stage_end, end_after, chain_end, AreStages}
 use Rattle.trace_text.specs.Acceptance.{Accepts}
 use Rattle.trace_text.specs.BadLines.{names_classes, has_parts, Holds, step_conditions, colours_conditions, stage_conditions, line_count_of_stage, chain_conditions, end_conditions, first_line, closure_line, conditions, AllHold}
-use Rattle.trace_text.proofs.Leads.{lead_after}
 use Rattle.trace_text.proofs.Stages.{chain_ends}
 
 -- what holds of each of two lists

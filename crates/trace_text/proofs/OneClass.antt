@@ -1,5 +1,5 @@
 -- A key on one class: its first part keeps the number of the class, and the next parts get the rank r, r + 1, ..
-use Rattle.std.proofs.Common.{◌≡◌, ◌↔◌, ◌==◌, ◌&&◌, nat_lt, ℕ, suc, zero, ◌+◌, ◌-◌, ◌*◌, ◌/◌, ◌%◌, ◌<◌, ◌≤◌, Bool, true, false, List, length, map, filter, count_by, ⊎_elim, sym, ap, subst, ◌∙◌, arith, if◌then◌else◌}
+use Rattle.std.proofs.Common.{◌≡◌, ◌↔◌, ◌==◌, ◌&&◌, nat_lt, ℕ, suc, zero, ◌+◌, ◌-◌, ◌*◌, ◌/◌, ◌%◌, ◌<◌, ◌≤◌, Bool, true, false, length, map, filter, count_by, ⊎_elim, sym, ap, subst, ◌∙◌, arith, if◌then◌else◌}
 use Rattle.std.proofs.lemmas.List.Sums.{count_by-le-length}
 use Rattle.std.proofs.lemmas.Bool.{cases_eq, cases_lt, cases_Bool, eq-eqb, eqb-true, ne_eqb, and_parts, lt-ltb, le-ltb, ltb-true}
 use Rattle.pair_colours.specs.Colouring.{PairColouring, IsColouring, colour_at, points}
@@ -11,7 +11,7 @@ use Rattle.pair_colours.proofs.Places.{row_below, column_below}
 use Rattle.trace_text.specs.Split.{has_smaller_key, later_keys, parted_by, key_in_class}
 use Rattle.trace_text.specs.Parts.{keys_in, part_number, class_parted_by}
 use Rattle.trace_text.proofs.Below.{bounded, below, below_none, below_next, below_all, below-lt, below-le, met_once}
-use Rattle.trace_text.proofs.Parting.{any_holds, HasKey, keys_where, key_counts, key_found, key_of_place, place_below_keys, moves, smaller_moves, smaller_found}
+use Rattle.trace_text.proofs.Parting.{any_holds, HasKey, key_counts, key_found, key_of_place, place_below_keys, moves, smaller_moves, smaller_found}
 
 -- the pairs of class k
 abbrev pub in_this : PairColouring → ℕ → ℕ × ℕ → Bool

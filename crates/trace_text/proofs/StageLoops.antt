@@ -10,7 +10,7 @@ use Rattle.trace_text.specs.declared.check_words.CheckWord.TheVariants.{StageNot
 use Rattle.trace_text.specs.declared.stage_list.Stage.{Stage}
 use Rattle.trace_text.specs.declared.stage_list.Claim.{Claim}
 use Rattle.trace_text.specs.Split.{Lead}
-use Rattle.trace_text.specs.Chains.{StageEnd, Follows, stage_start, IsStageOf, stage_end, end_after, chain_end, AreStages}
+use Rattle.trace_text.specs.Chains.{StageEnd, Follows, stage_start, IsStageOf, stage_end, chain_end, AreStages}
 use Rattle.trace_text.specs.Acceptance.{step_count}
 use Rattle.trace_text.specs.BadLines.{refines_stage, ends_coherent, names_end, step_conditions, colours_conditions, stage_conditions, line_count_of_stage, chain_conditions, end_conditions, first_line, closure_line, IsFirstFailing, IsFirstBadLine}
 use Rattle.trace_text.proofs.Stages.{IsEnd, stage_end-is, AreStages-push, chain_end-push, some_end}

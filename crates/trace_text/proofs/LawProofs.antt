@@ -1,0 +1,54 @@
+-- The proofs of the laws, under the names by which crates above cite them.
+use Rattle.trace_text.specs.Law.{SplitIsPartition, SplitRefines, SplitRank, PartsOneClass, PartsTwoKeys, SplitKeepsCoherent, MeetIsNamedMeet, AcceptedIsClosure, ClosureOfMeet, StepsExist, VerdictExists, AcceptedHasNone, FirstBadLineIsUnique}
+use Rattle.trace_text.proofs.Splits as splits
+use Rattle.trace_text.proofs.OneClass as one_class
+use Rattle.trace_text.proofs.Meeting as meeting
+use Rattle.trace_text.proofs.Reaching as reaching
+use Rattle.trace_text.proofs.Stages as stages
+use Rattle.trace_text.proofs.Verdicts as verdicts
+
+-- a split of a partition is a partition that refines it, with one class more for each later key
+pub split_is_partition : SplitIsPartition
+split_is_partition = splits.split_is_partition
+
+pub split_refines : SplitRefines
+split_refines = splits.split_refines
+
+pub split_rank : SplitRank
+split_rank = splits.split_rank
+
+-- and keeps every coherent refinement below it
+pub split_keeps_coherent : SplitKeepsCoherent
+split_keeps_coherent = splits.split_keeps_coherent
+
+-- a key on one class parts that class alone
+pub parts_one_class : PartsOneClass
+parts_one_class = one_class.parts_one_class
+
+pub parts_two_keys : PartsTwoKeys
+parts_two_keys = one_class.parts_two_keys
+
+-- the meet with a partition is the named meet, and has the closure of a refining colouring
+pub meet_is_named_meet : MeetIsNamedMeet
+meet_is_named_meet = meeting.IsNamedMeet-meet_of
+
+pub closure_of_meet : ClosureOfMeet
+closure_of_meet = meeting.closure_of_meet
+
+-- every partition reaches a coherent one
+pub steps_exist : StepsExist
+steps_exist = reaching.steps_exist
+
+-- an accepted claim is the closure of its last stage
+pub accepted_is_closure : AcceptedIsClosure
+accepted_is_closure = stages.accepted_is_closure
+
+-- a claim with a stage is accepted, or has one first bad line with one word
+pub verdict_exists : VerdictExists
+verdict_exists = verdicts.verdict_exists
+
+pub accepted_has_none : AcceptedHasNone
+accepted_has_none = verdicts.accepted_has_none
+
+pub first_bad_line_is_unique : FirstBadLineIsUnique
+first_bad_line_is_unique = verdicts.first_bad_line_is_unique

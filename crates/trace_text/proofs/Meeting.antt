@@ -1,0 +1,96 @@
+-- Named meets, and the closure of a colouring that refines another.
+use Rattle.std.proofs.Common.{◌≡◌, ◌↔◌, ℕ, ◌+◌, ◌*◌, ◌/◌, ◌%◌, ◌<◌, refl, sym, ap, ◌∙◌, arith}
+use Rattle.std.proofs.lemmas.Nat.{div-mul-add, mod-mul-add}
+use Rattle.pair_colours.specs.Colouring.{PairColouring, IsColouring, Refines, IsSamePartition, colour_at}
+use Rattle.pair_colours.specs.Closure.{Coherent, IsClosureOf}
+use Rattle.pair_colours.specs.Naming.{rank_of, named_of, IsNamedMeet}
+use Rattle.pair_colours.proofs.Closures.{IsColouring-named_of, named_of-refines, refines-named_of, named_of-named_of}
+use Rattle.pair_colours.proofs.Exists.{colour_at-by_pairs, IsColouring-by_pairs}
+use Rattle.pair_colours.proofs.Names.{named_of-same}
+use Rattle.pair_colours.proofs.Places.{Refines-trans}
+use Rattle.trace_text.specs.Partition.{IsPartition, coloured_by, meet_of}
+
+-- what refines both refines the meet
+pub meet_below : (Q A B M : PairColouring) → IsNamedMeet A B M → Refines Q A → Refines Q B → Refines Q M
+meet_below Q A B M m r s = record {
+  sizes = r.sizes ∙ sym m.first.sizes;
+  classes = λ x y u v hx hy hu hv e.
+      m.together x y u v (to x hx) (to y hy) (to u hu) (to v hv) (r.classes x y u v hx hy hu hv e) (s.classes x y u v hx hy hu hv e);
+}
+  where
+    to : (z : ℕ) → z < Q.size → z < M.size
+    to z l = omega (arith, l, r.sizes, m.first.sizes)
+
+-- a named meet is one
+pub IsNamedMeet-unique : (A B M N : PairColouring) → IsNamedMeet A B M → IsNamedMeet A B N → M ≡ N
+IsNamedMeet-unique A B M N m n =
+    sym m.named ∙ named_of-same M N m.colouring n.colouring (meet_below M A B N n m.first m.second) (meet_below N A B M m n.first n.second) ∙ n.named
+
+-- both colours as one number
+abbrev joined : PairColouring → PairColouring → PairColouring
+joined A P = coloured_by A.size (λ x y. colour_at A x y * rank_of P + colour_at P x y)
+
+-- the meet with a partition is the named meet
+pub IsNamedMeet-meet_of : (A P : PairColouring) → IsColouring A → IsPartition P → A.size ≡ P.size → IsNamedMeet A P (meet_of A P)
+IsNamedMeet-meet_of A P a p sizes = record {
+  colouring = IsColouring-named_of (joined A P) n;
+  first = Refines-trans (named_of (joined A P)) (joined A P) A (named_of-refines (joined A P) n) (record {
+    sizes = refl;
+    classes = λ x y u v hx hy hu hv e.
+        sym (div-mul-add (colour_at A x y) (rank_of P) (colour_at P x y) (low x y hx hy)) ∙ ap (λ c. c / rank_of P) (codes x y u v hx hy hu hv e)
+        ∙ div-mul-add (colour_at A u v) (rank_of P) (colour_at P u v) (low u v hu hv);
+  });
+  second = Refines-trans (named_of (joined A P)) (joined A P) P (named_of-refines (joined A P) n) (record {
+    sizes = sizes;
+    classes = λ x y u v hx hy hu hv e.
+        sym (mod-mul-add (colour_at A x y) (rank_of P) (colour_at P x y) (low x y hx hy)) ∙ ap (λ c. c % rank_of P) (codes x y u v hx hy hu hv e)
+        ∙ mod-mul-add (colour_at A u v) (rank_of P) (colour_at P u v) (low u v hu hv);
+  });
+  together = λ x y u v hx hy hu hv e f.
+      (refines-named_of (joined A P) n).classes x y u v hx hy hu hv (at x y hx hy ∙ (λ i. e i * rank_of P + f i) ∙ sym (at u v hu hv));
+  named = named_of-named_of (joined A P) n;
+}
+  where
+    n : IsColouring (joined A P)
+    n = IsColouring-by_pairs A.size (λ x y. colour_at A x y * rank_of P + colour_at P x y) a.has_points
+
+    at : (x y : ℕ) → x < A.size → y < A.size
+        → colour_at (joined A P) x y ≡ colour_at A x y * rank_of P + colour_at P x y
+    at x y hx hy = colour_at-by_pairs A.size (λ x y. colour_at A x y * rank_of P + colour_at P x y) x y hx hy
+
+    low : (x y : ℕ) → x < A.size → y < A.size → colour_at P x y < rank_of P
+    low x y hx hy = p.below x y (omega (arith, hx, sizes)) (omega (arith, hy, sizes))
+
+    codes : (x y u v : ℕ) → x < A.size → y < A.size → u < A.size → v < A.size
+        → colour_at (joined A P) x y ≡ colour_at (joined A P) u v
+        → colour_at A x y * rank_of P + colour_at P x y ≡ colour_at A u v * rank_of P + colour_at P u v
+    codes x y u v hx hy hu hv e = sym (at x y hx hy) ∙ e ∙ at u v hu hv
+
+-- the closure of a colouring that refines C is the closure of its meet with the closure of C
+pub closure_of_meet : (C C2 K E M K2 : PairColouring) → Refines C2 C → IsClosureOf K C → IsSamePartition E K → IsNamedMeet C2 E M
+    → (IsClosureOf K2 C2) ↔ (IsClosureOf K2 M)
+closure_of_meet C C2 K E M K2 finer k same m = (
+  λ k2. record {
+    closure = record {
+      colouring = k2.closure.colouring;
+      coherent = k2.closure.coherent;
+      refines = below K2 k2.closure.colouring k2.closure.coherent k2.closure.refines;
+      coarsest = λ Q q h t. k2.closure.coarsest Q q h (Refines-trans Q M C2 t m.first);
+    };
+    named = k2.named;
+  },
+  λ k2. record {
+    closure = record {
+      colouring = k2.closure.colouring;
+      coherent = k2.closure.coherent;
+      refines = Refines-trans K2 M C2 k2.closure.refines m.first;
+      coarsest = λ Q q h t. k2.closure.coarsest Q q h (below Q q h t);
+    };
+    named = k2.named;
+  },
+)
+  where
+    -- a coherent colouring that refines C2 refines the meet
+    below : (Q : PairColouring) → IsColouring Q → Coherent Q → Refines Q C2 → Refines Q M
+    below Q q h t =
+        meet_below Q C2 E M m t (Refines-trans Q K E (k.closure.coarsest Q q h (Refines-trans Q C2 C t finer)) same.coarser)

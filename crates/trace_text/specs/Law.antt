@@ -1,0 +1,69 @@
+-- Laws over the definitions alone.
+use Rattle.std.specs.Prelude.{◌≡◌, ◌↔◌, ◌⊎◌, ℕ, ◌+◌, ◌≤◌, List, [], ◌∷◌, ◌++◌, length, All}
+use Rattle.pair_colours.specs.Colouring.{PairColouring, IsColouring, Refines, IsSamePartition}
+use Rattle.pair_colours.specs.Closure.{Coherent, IsClosureOf}
+use Rattle.pair_colours.specs.Naming.{rank_of, IsNamedMeet}
+use Rattle.trace_text.specs.declared.check_words.CheckWord.{CheckWord}
+use Rattle.trace_text.specs.declared.step_list.Step.{Step}
+use Rattle.trace_text.specs.declared.stage_list.Stage.{Stage}
+use Rattle.trace_text.specs.declared.stage_list.Claim.{Claim}
+use Rattle.trace_text.specs.Partition.{IsPartition, meet_of}
+use Rattle.trace_text.specs.Split.{later_keys, parted_by, key_in_class, key_of, IsSplit, Lead}
+use Rattle.trace_text.specs.Parts.{keys_in, class_parted_by}
+use Rattle.trace_text.specs.Acceptance.{Accepts}
+use Rattle.trace_text.specs.BadLines.{IsFirstBadLine}
+
+-- a split of a partition is a partition
+abbrev pub SplitIsPartition : Type 0
+SplitIsPartition = (P P2 : PairColouring) (s : Step) → IsPartition P → IsSplit P s P2 → IsPartition P2
+
+-- which refines it
+abbrev pub SplitRefines : Type 0
+SplitRefines = (P P2 : PairColouring) (s : Step) → IsPartition P → IsSplit P s P2 → Refines P2 P
+
+-- and has one class more for each later key
+abbrev pub SplitRank : Type 0
+SplitRank = (P P2 : PairColouring) (s : Step) → IsPartition P → IsSplit P s P2 → rank_of P2 ≡ rank_of P + length (later_keys P (key_of P s))
+
+-- a key on class k alone parts that class, and no other
+abbrev pub PartsOneClass : Type 0
+PartsOneClass = (P : PairColouring) (k : ℕ) (key : ℕ → ℕ → ℕ) → IsColouring P → parted_by P (key_in_class P k key) ≡ class_parted_by P k key
+
+-- and there is a later key exactly where the pairs of the class have two keys at least
+abbrev pub PartsTwoKeys : Type 0
+PartsTwoKeys = (P : PairColouring) (k : ℕ) (key : ℕ → ℕ → ℕ) → (1 ≤ length (later_keys P (key_in_class P k key))) ↔ (2 ≤ length (keys_in P k key))
+
+-- a split keeps every coherent refinement below it
+abbrev pub SplitKeepsCoherent : Type 0
+SplitKeepsCoherent = (Q P P2 : PairColouring) (s : Step) → IsColouring Q → Coherent Q → Refines Q P → IsSplit P s P2 → Refines Q P2
+
+-- the meet with a partition is the named meet
+abbrev pub MeetIsNamedMeet : Type 0
+MeetIsNamedMeet = (A P : PairColouring) → IsColouring A → IsPartition P → A.size ≡ P.size → IsNamedMeet A P (meet_of A P)
+
+-- an accepted claim is the closure of the colours of its last stage
+abbrev pub AcceptedIsClosure : Type 0
+AcceptedIsClosure = (claim : Claim) (front : List Stage) (last : Stage) → All (λ stage. IsColouring stage.colours) claim.chain
+    → claim.chain ≡ front ++ last ∷ [] → Accepts claim → IsClosureOf claim.closure last.colours
+
+-- where E has the classes of the closure K of C, and C2 refines C, the closure of C2 is that of its named meet M with E
+abbrev pub ClosureOfMeet : Type 0
+ClosureOfMeet = (C C2 K E M K2 : PairColouring) → Refines C2 C → IsClosureOf K C → IsSamePartition E K → IsNamedMeet C2 E M
+    → (IsClosureOf K2 C2) ↔ (IsClosureOf K2 M)
+
+-- from every partition some steps lead by splits to a coherent partition
+abbrev pub StepsExist : Type 0
+StepsExist = (P : PairColouring) → IsPartition P → (steps : List Step) × (P2 : PairColouring) × IsPartition P2 × Coherent P2 × Lead steps P P2
+
+-- a claim with a stage is accepted, or has a first bad line
+abbrev pub VerdictExists : Type 0
+VerdictExists = (claim : Claim) → 1 ≤ length claim.chain → Accepts claim ⊎ ((line : ℕ) × (word : CheckWord) × IsFirstBadLine claim line word)
+
+-- and not both
+abbrev pub AcceptedHasNone : Type 0
+AcceptedHasNone = (claim : Claim) (line : ℕ) (word : CheckWord) → Accepts claim → ¬ IsFirstBadLine claim line word
+
+-- and only one such line, with one word
+abbrev pub FirstBadLineIsUnique : Type 0
+FirstBadLineIsUnique = (claim : Claim) (line line2 : ℕ) (word word2 : CheckWord)
+    → IsFirstBadLine claim line word → IsFirstBadLine claim line2 word2 → (line ≡ line2) × (word ≡ word2)

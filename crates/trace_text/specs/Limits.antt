@@ -1,0 +1,8 @@
+-- The limits of traces.
+use Rattle.std.specs.Prelude.{◌≡◌}
+use Rattle.trace_text.specs.declared.limits.TheConstants.{MOST_TRACE, MOST_STEP_NUMBER}
+
+-- the limits are these
+pub record AreLimits : Type 0 where
+  pub bytes : MOST_TRACE ≡ 67108864
+  pub step_number : MOST_STEP_NUMBER ≡ 65535

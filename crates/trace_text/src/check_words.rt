@@ -1,0 +1,16 @@
+//! Why a claim is not accepted.
+
+/// What is wrong on a line of a claim, in the order in which one line is tested.
+#[derive(Clone, Copy, Debug, PartialEq, Eq)]
+pub enum CheckWord {
+    /// The colours of a later stage do not refine those of the stage before.
+    StageNotRefining,
+    /// A step names a number that no class has.
+    NoSuchClass,
+    /// A step leaves every class whole.
+    IdleStep,
+    /// The last partition is not coherent.
+    NotCoherent,
+    /// The claimed closure is not the naming of the last partition.
+    WrongClosure,
+}

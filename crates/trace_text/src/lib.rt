@@ -1,0 +1,27 @@
+//! Traces: certificates of a coherent closure, which a checker judges without closing anything.
+//!
+//! A trace is a chain of stages, each a colouring and a list of steps that split classes, and a
+//! colouring that is claimed to be the closure of the colours of the last stage.
+//!
+//! * `step_list`: `Step`, which splits a class of a partition, and `Steps`, a list of steps.
+//! * `stage_list`: `Stage`, `Chain` and `Claim`, what a trace says.
+//! * `check_words`: why a claim is not accepted.
+//! * `limits`: how long a trace may be, and what a step may name.
+//! * `laws`: what holds of the definitions alone.
+//!
+//! The definitions stand in `specs/`; docs/DEFINITIONS.md has them in words.
+#![tactic(auto)]
+
+mod check_words;
+pub mod laws;
+mod limits;
+mod stage_list;
+mod step_list;
+
+pub use check_words::CheckWord;
+pub use limits::{MOST_STEP_NUMBER, MOST_TRACE};
+pub use stage_list::{Chain, Claim, Stage};
+pub use step_list::{Step, Steps};
+
+#[cfg(test)]
+mod tests;

@@ -150,7 +150,7 @@ fn bits_fault(format: GraphFormat, body: TextPart<'_>) -> Option<Fault>
 
 // Whether a bit from a place on is 1.
 fn has_padding(bits: &[u8], count: usize, len: usize) -> bool
-    requires bytes_len { length bits.now ≡ len }
+    requires enough { len ≤ length bits.now }
     requires few { len ≤ MOST_POINTS * MOST_POINTS }
     requires printable { All (λ b. 63 ≤ b) bits.now }
     ensures { result ≡ list_any (encoding.bit_in bits.now) (range_with_len count (6 * len - count)) }

@@ -73,10 +73,6 @@ fn long_sizes_are_read(rt: HostRuntime) -> Result<(), Fail> {
     for (size, count, points) in sizes {
         let relation = read(&rt, &zeros(&rt, size, count)?, 1)?;
         assert_eq!(rt; relation.size(), points);
-        let short = read(&rt, &zeros(&rt, size, count - 1)?, 1).err();
-        let what = RelationWord::WrongLength;
-        let at = count as u32 + 3;
-        assert_eq!(rt; short, Some(RelationFault::Text { what, at }));
     }
     Ok(())
 }
@@ -156,34 +152,17 @@ fn texts_are_refused(rt: HostRuntime) {
     }
 }
 
-// Matrices, sets of their colours, and the text of the graph of these colours, or of the digraph,
-// where there is one.
-const GRAPHS: [(&[u8], &[u32], Option<&[u8]>); 10] = [
-    (CUBE, &[1], Some(b"Gr`HOk")),
-    (CUBE, &[3], Some(b"G?CaC?")),
-    (CUBE, &[3, 3], Some(b"G?CaC?")),
-    (CUBE, &[0], None),
-    (CUBE, &[4], None),
-    (CUBE, &[1, 0, 3], None),
-    (CUBE, &[3, 4_000_000], None),
-    (CYCLE, &[1], None),
-    // The two arcs of each edge, in either order, make the triangle.
-    (CYCLE, &[1, 2], Some(b"Bw")),
-    (CYCLE, &[2, 1], Some(b"Bw")),
-];
-
-const DIGRAPHS: [(&[u8], &[u32], Option<&[u8]>); 2] = [
-    (CYCLE, &[1], Some(b"&BP_")),
-    (CYCLE, &[1, 3], None),
-];
-
-#[test]
-fn graphs_are_written(rt: HostRuntime) -> Result<(), Fail> {
-    let alloc = rt.alloc();
-    for (matrix, set, want) in GRAPHS {
-        let text = write_graph6(alloc, &read(&rt, matrix, 1)?, set);
+// The text of the graph of each set of colours of a matrix, where there is one.
+fn assert_graphs(
+    rt: &(impl Abort + AllocGlobal),
+    matrix: &[u8],
+    graphs: &[(&[u32], Option<&[u8]>)],
+) -> Result<(), Fail> {
+    let relation = read(rt, matrix, 1)?;
+    for (set, want) in graphs {
+        let text = write_graph6(rt.alloc(), &relation, set);
         match want {
-            Some(want) => assert_eq!(rt; text?.as_slice(), want),
+            Some(want) => assert_eq!(rt; text?.as_slice(), *want),
             None => assert_eq!(rt; text.err(), Some(WriteFault::BadSet)),
         }
     }
@@ -191,14 +170,31 @@ fn graphs_are_written(rt: HostRuntime) -> Result<(), Fail> {
 }
 
 #[test]
+fn graphs_are_written(rt: HostRuntime) -> Result<(), Fail> {
+    assert_graphs(
+        &rt,
+        CUBE,
+        &[
+            (&[1], Some(b"Gr`HOk")),
+            (&[3, 3], Some(b"G?CaC?")),
+            (&[4], None),
+            (&[1, 0, 3], None),
+        ],
+    )?;
+    // The two arcs of each edge, in either order, make the triangle.
+    assert_graphs(
+        &rt,
+        CYCLE,
+        &[(&[1], None), (&[1, 2], Some(b"Bw")), (&[2, 1], Some(b"Bw"))],
+    )
+}
+
+#[test]
 fn digraphs_are_written(rt: HostRuntime) -> Result<(), Fail> {
-    let alloc = rt.alloc();
-    for (matrix, set, want) in DIGRAPHS {
-        let text = write_digraph6(alloc, &read(&rt, matrix, 1)?, set);
-        match want {
-            Some(want) => assert_eq!(rt; text?.as_slice(), want),
-            None => assert_eq!(rt; text.err(), Some(WriteFault::BadSet)),
-        }
-    }
+    let cycle = read(&rt, CYCLE, 1)?;
+    let text = write_digraph6(rt.alloc(), &cycle, &[1])?;
+    assert_eq!(rt; text.as_slice(), b"&BP_".as_slice());
+    let none = write_digraph6(rt.alloc(), &cycle, &[1, 3]).err();
+    assert_eq!(rt; none, Some(WriteFault::BadSet));
     Ok(())
 }

@@ -1,11 +1,12 @@
-pub mod Walks
-pub mod Searches
-pub mod Counting
-pub mod FirstPlaces
-pub mod Marks
-pub mod TableLemmas
-pub mod Regular
-pub mod OneAnswer
-pub mod SomeDistances
-pub mod SomeTables
-pub mod SomeAnswer
+pub mod LawProofs
+mod Walks
+mod Searches
+mod Counting
+mod FirstPlaces
+mod Marks
+mod TableLemmas
+mod Regular
+mod OneAnswer
+mod SomeDistances
+mod SomeTables
+mod SomeAnswer

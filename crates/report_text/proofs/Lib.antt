@@ -1,3 +1,3 @@
-pub mod ClassLines
-pub mod Rising
-pub mod ConstantLists
+mod ClassLines
+mod Rising
+mod ConstantLists

@@ -12,8 +12,7 @@ use Rattle.pair_colours.specs.ClosedSet.{IsClosedSet}
 use Rattle.pair_colours.specs.IntersectionNumber.{pair_of_class}
 use Rattle.pair_colours.proofs.ListLemmas.{list_any-points}
 use Rattle.struct_consts.specs.ClassData.{IsConfiguration}
-use Rattle.struct_consts.proofs.Configurations.{pair_of_class-holds, class_is_colour, colour_below}
-use Rattle.struct_consts.proofs.Constancy.{triangle_moved}
+use Rattle.struct_consts.proofs.LawProofs.{colours_are_below_rank, classes_have_pairs, triangles_move}
 use Rattle.scheme_tests.specs.SchemeTests.{Homogeneous, HoldsDiagonal, HoldsAll, Primitive, Spans, HasProperSet}
 use Rattle.scheme_tests.specs.Steps.{Path, Joined, mark_at, MarksReached}
 use Rattle.scheme_tests.proofs.Paths.{Joined-refl, Joined-sym, Joined-trans, Joined-moved}
@@ -67,7 +66,7 @@ module _ (K : PairColouring) (g : IsConfiguration K) (h : Homogeneous K) (c : �
 
   set_from_joined : (x y : ℕ) → x < K.size → y < K.size → Joined K c x y → reached_set K marks (colour_at K x y) ≡ true
   set_from_joined x y hx hy j =
-      let w = triangle_moved K g.coherent x x 0 0 y hx hx zero_in zero_in hy (h.one_fibre x 0 hx zero_in) in
+      let w = triangles_move K g.coherent x x 0 0 y hx hx zero_in zero_in hy (h.one_fibre x 0 hx zero_in) in
       let there = Joined-moved K g.coherent c x y 0 w.0 hx hy zero_in w.1 (sym w.2) j in
       in_set K marks w.0 (colour_at K x y) w.1 (r.complete w.0 w.1 there) w.2
 
@@ -81,7 +80,7 @@ module _ (K : PairColouring) (g : IsConfiguration K) (h : Homogeneous K) (c : �
   -- a class that leaves a point unmarked is in a closed set that is not everything
   pub proper_from_marks : c < rank_of K → (y : ℕ) → y < K.size → mark_at marks y ≡ false → HasProperSet K c
   proper_from_marks l y hy off =
-      let p = pair_of_class-holds K g c l in
+      let p = (classes_have_pairs K g c l).1 in
       let x = (pair_of_class K c).0 in
       let z = (pair_of_class K c).1 in
       let one : Joined K c x z = (suc zero, (x, p.row, refl, inl p.colour)) in
@@ -133,12 +132,12 @@ primitive_from_spans K g h two each = record {
     diagonal : (set : ℕ → Bool) → ((k : ℕ) → k < rank_of K → (set k && not (k == colour_at K 0 0)) ≡ false) → (c : ℕ) → IsColour K c → IsTrue (set c) → c ≡ colour_at K 0 0
     diagonal set none c u t = ⊎_elim
         (λ e. e)
-        (λ ne. absurd (both_ways _ (none c (colour_below K g c u)) (and_from (set c) (not (c == colour_at K 0 0)) t (not_from_false (c == colour_at K 0 0) (ne_eqb c (colour_at K 0 0) ne)))))
+        (λ ne. absurd (both_ways _ (none c ((colours_are_below_rank K g c).1 u)) (and_from (set c) (not (c == colour_at K 0 0)) t (not_from_false (c == colour_at K 0 0) (ne_eqb c (colour_at K 0 0) ne)))))
         (cases_eq c (colour_at K 0 0))
 
 -- one class off the diagonal with a proper closed set is enough against it
 pub not_primitive : (K : PairColouring) → IsConfiguration K → (k : ℕ) → k < rank_of K → (k ≡ colour_at K 0 0 → ⊥) → HasProperSet K k → Primitive K → ⊥
 not_primitive K g k l ne s p = ⊎_elim
-    (λ d. ne ((d.alone k (class_is_colour K g k l)).0 s.holds))
+    (λ d. ne ((d.alone k ((colours_are_below_rank K g k).0 l)).0 s.holds))
     (λ a. s.misses (a.all s.missing s.colour))
     (p.trivial s.set s.closed)

@@ -1,7 +1,8 @@
-pub mod Paths
-pub mod SearchLemmas
-pub mod ClosedSets
-pub mod TestLemmas
-pub mod SomeMarks
-pub mod SomeAnswers
-pub mod OneOrder
+pub mod LawProofs
+mod Paths
+mod SearchLemmas
+mod ClosedSets
+mod TestLemmas
+mod SomeMarks
+mod SomeAnswers
+mod OneOrder

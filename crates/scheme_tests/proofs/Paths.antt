@@ -2,7 +2,7 @@
 use Rattle.std.proofs.Common.{◌≡◌, ℕ, suc, zero, ◌<◌, inl, inr, ⊎_elim, refl, sym, ap, subst, ◌∙◌}
 use Rattle.pair_colours.specs.Colouring.{PairColouring, colour_at}
 use Rattle.pair_colours.specs.Closure.{Coherent}
-use Rattle.struct_consts.proofs.Constancy.{triangle_moved}
+use Rattle.struct_consts.proofs.LawProofs.{triangles_move}
 use Rattle.scheme_tests.specs.Steps.{Step, Path, Joined}
 
 Step-sym : (K : PairColouring) (c x y : ℕ) → Step K c x y → Step K c y x
@@ -39,7 +39,7 @@ Joined-trans K c x y z j k = path_after K c k.0 x y z j k.1
 path_moved : (K : PairColouring) → Coherent K → (c m x y u v : ℕ) → x < K.size → y < K.size → u < K.size → v < K.size → colour_at K x y ≡ colour_at K u v → Path K c m x y → Path K c m u v
 path_moved K h c zero x y u v hx hy hu hv e p = h.splits_diagonal x u v hx hu hv (ap (colour_at K x) p ∙ e)
 path_moved K h c (suc m) x y u v hx hy hu hv e p =
-    let w = triangle_moved K h x y u v p.0 hx hy hu hv p.1 e in
+    let w = triangles_move K h x y u v p.0 hx hy hu hv p.1 e in
     let step : Step K c w.0 v = ⊎_elim
     (λ a. inl (w.3 ∙ a))
     (λ a. inr (h.closed_under_transpose w.0 v p.0 y w.1 hv p.1 hy w.3 ∙ a))

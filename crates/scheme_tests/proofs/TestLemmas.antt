@@ -1,15 +1,18 @@
 -- What the look-ups of the tests say.
-use Rattle.std.proofs.Common.{◌≡◌, ℕ, ◌+◌, ◌<◌, ◌≤◌, List, length, get_or, Some, option_map, ⊎_elim, sym, ap, subst, ◌∙◌, arith}
+use Rattle.std.proofs.Common.{◌≡◌, ℕ, ◌+◌, ◌<◌, ◌≤◌, List, length, get_or, Some, option_map, ⊎_elim, refl, sym, ap, subst, ◌∙◌, arith}
 use Rattle.std.proofs.lemmas.Bool.{cases_lt}
-use Rattle.pair_colours.specs.Colouring.{PairColouring, colour_at}
+use Rattle.pair_colours.specs.Colouring.{PairColouring, IsColour, colour_at}
 use Rattle.pair_colours.specs.Naming.{rank_of, transpose_of}
 use Rattle.pair_colours.specs.IntersectionNumber.{pair_of_class, intersection_number}
 use Rattle.struct_consts.specs.Entry.{Entry}
 use Rattle.struct_consts.specs.Row.{IsRowAt}
 use Rattle.struct_consts.specs.ClassData.{IsConfiguration, row_count, valency_of}
-use Rattle.struct_consts.proofs.Configurations.{pair_of_class-holds, first_pair_some, class_is_colour, colour_below, colour_at-below}
-use Rattle.struct_consts.proofs.Constancy.{valency-fibre}
+use Rattle.struct_consts.proofs.LawProofs.{colours_are_below_rank, classes_have_pairs, rows_are_valencies}
 use Rattle.scheme_tests.specs.SchemeTests.{Homogeneous, Symmetric, Commutative, CommutesAt, Thin}
+
+-- the colour of a pair is a colour
+pub colour_of : (K : PairColouring) (x y : ℕ) → x < K.size → y < K.size → IsColour K (colour_at K x y)
+colour_of K x y hx hy = record { x = x; y = y; row = hx; column = hy; is = refl }
 
 -- the numbers of one class are the same with i and j exchanged, if they are so at each entry of its row
 pub commutes_from_entries : (K : PairColouring) (k : ℕ) (entries : List Entry) → IsRowAt K (pair_of_class K k).0 (pair_of_class K k).1 entries
@@ -53,21 +56,26 @@ commutes_before_more K n before here = record {
 }
 
 pub commutative_from_each : (K : PairColouring) (n : ℕ) → IsConfiguration K → rank_of K ≤ n → CommutesBefore K n → Commutative K
-commutative_from_each K n g r before = record {
-  swapped = λ i j k ui uj uk. (before.each k (omega (arith, colour_below K g k uk, r))).swapped i j (colour_below K g i ui) (colour_below K g j uj);
-}
+commutative_from_each K n g r before = record { swapped = λ i j k ui uj uk. (before.each k (omega (arith, below k uk, r))).swapped i j (below i ui) (below j uj) }
+  where
+    below : (c : ℕ) → IsColour K c → c < rank_of K
+    below c = (colours_are_below_rank K g c).1
 
 pub commutes_at_each : (K : PairColouring) → IsConfiguration K → Commutative K → (k : ℕ) → k < rank_of K → CommutesAt K k
-commutes_at_each K g h k l = record { swapped = λ i j hi hj. h.swapped i j k (class_is_colour K g i hi) (class_is_colour K g j hj) (class_is_colour K g k l) }
+commutes_at_each K g h k l = record { swapped = λ i j hi hj. h.swapped i j k (colour i hi) (colour j hj) (colour k l) }
+  where
+    colour : (c : ℕ) → c < rank_of K → IsColour K c
+    colour c = (colours_are_below_rank K g c).0
 
 -- the turned pairs of a class that is its own transpose have its colour
 pub symmetric_from_each : (K : PairColouring) → IsConfiguration K → ((x y : ℕ) → x < K.size → y < K.size → colour_at K x y < rank_of K → colour_at K y x ≡ colour_at K x y) → Symmetric K
-symmetric_from_each K g each = record { turned = λ x y hx hy. sym (each x y hx hy (colour_at-below K g x y hx hy)) }
+symmetric_from_each K g each = record { turned = λ x y hx hy. sym (each x y hx hy ((colours_are_below_rank K g (colour_at K x y)).1 (colour_of K x y hx hy))) }
 
 pub transpose_in_symmetric : (K : PairColouring) → IsConfiguration K → (k t : ℕ) → k < rank_of K → transpose_of K k ≡ Some t → Symmetric K → t ≡ k
 transpose_in_symmetric K g k t l e h =
-    let p = pair_of_class-holds K g k l in
-    let is : colour_at K (pair_of_class K k).1 (pair_of_class K k).0 ≡ t = let z : Some (colour_at K (pair_of_class K k).1 (pair_of_class K k).0) ≡ Some t = ap (option_map (λ q. colour_at K q.1 q.0)) (sym (first_pair_some K g k l)) ∙ e in cc in
+    let first = classes_have_pairs K g k l in
+    let p = first.1 in
+    let is : colour_at K (pair_of_class K k).1 (pair_of_class K k).0 ≡ t = let z : Some (colour_at K (pair_of_class K k).1 (pair_of_class K k).0) ≡ Some t = ap (option_map (λ q. colour_at K q.1 q.0)) (sym first.0) ∙ e in cc in
     sym is ∙ sym (h.turned (pair_of_class K k).0 (pair_of_class K k).1 p.row p.column) ∙ p.colour
 
 -- the lemmas of the two tests that look at each class
@@ -78,16 +86,16 @@ pub ruleset symmetric_steps = (symmetric_from_each, transpose_in_symmetric)
 -- in a homogeneous configuration each point sees a class as often as its valency says
 pub row_count-homogeneous : (K : PairColouring) → IsConfiguration K → Homogeneous K → (x k : ℕ) → x < K.size → k < rank_of K → row_count K x k ≡ valency_of K k
 row_count-homogeneous K g h x k hx l =
-    let p = pair_of_class-holds K g k l in
-    valency-fibre K g k x l hx (h.one_fibre x (pair_of_class K k).0 hx p.row)
+    let p = (classes_have_pairs K g k l).1 in
+    rows_are_valencies K g k x l hx (h.one_fibre x (pair_of_class K k).0 hx p.row)
 
 pub thin_from_valencies : (K : PairColouring) → IsConfiguration K → Homogeneous K → ((c : ℕ) → c < rank_of K → valency_of K c ≡ 1) → Thin K
 thin_from_valencies K g h one = record {
   homogeneous = h;
-  one_point = λ x k hx u. let l = colour_below K g k u in row_count-homogeneous K g h x k hx l ∙ one k l;
+  one_point = λ x k hx u. let l = (colours_are_below_rank K g k).1 u in row_count-homogeneous K g h x k hx l ∙ one k l;
 }
 
 pub valencies_in_thin : (K : PairColouring) → IsConfiguration K → Thin K → (c : ℕ) → c < rank_of K → valency_of K c ≡ 1
 valencies_in_thin K g t c l =
-    let p = pair_of_class-holds K g c l in
-    t.one_point (pair_of_class K c).0 c p.row (class_is_colour K g c l)
+    let p = (classes_have_pairs K g c l).1 in
+    t.one_point (pair_of_class K c).0 c p.row ((colours_are_below_rank K g c).0 l)

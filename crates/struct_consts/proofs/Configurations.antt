@@ -11,7 +11,7 @@ use Rattle.pair_colours.proofs.NamePlaces.{name_of-position}
 use Rattle.pair_colours.proofs.Names.{InSquare, Each-walk, Each-first_met, Each-along, along}
 use Rattle.pair_colours.proofs.Closures.{met_at, colour_at-named_of}
 use Rattle.pair_colours.proofs.FirstPair.{no_colour}
-use Rattle.struct_consts.specs.ClassData.{IsConfiguration}
+use Rattle.struct_consts.specs.ClassData.{IsConfiguration, IsPairOf}
 
 -- a colour is its own name
 pub name_of_colour : (K : PairColouring) → IsConfiguration K → (c : ℕ) → IsColour K c → name_of K c ≡ c
@@ -78,12 +78,6 @@ class_is_colour K h k l =
     let name : c ≡ k = sym (name_of_colour K h c u) ∙ name_of-position K c ∙ place in
     subst (IsColour K) name u
 
--- the first pair of a class is a pair of that class
-pub record HasFirstPair (K : PairColouring) (k : ℕ) (p : ℕ × ℕ) : Type 0 where
-  pub row : p.0 < K.size
-  pub column : p.1 < K.size
-  pub colour : colour_at K p.0 p.1 ≡ k
-
 find_holds : {X : Type 0} (P : X → Type 0) (p : X → Bool) (xs : List X) (x : X) → AllByRecursion P xs → find p xs ≡ Some x → P x × (p x ≡ true)
 find_holds P p [] x a h = cc
 find_holds {X} P p (y ∷ ys) x a h = by (p y) refl (find_holds P p ys x a.1)
@@ -94,7 +88,8 @@ find_holds {X} P p (y ∷ ys) x a h = by (p y) refl (find_holds P p ys x a.1)
         (subst P same a.0, subst (λ w. p w ≡ true) same e)
     by false e again = again (sym (ap (λ b. cond b (Some y) (find p ys)) e) ∙ h)
 
-pub first_pair_holds : (K : PairColouring) (k : ℕ) (p : ℕ × ℕ) → first_pair_of K k ≡ Some p → HasFirstPair K k p
+-- the first pair of a class is a pair of that class
+pub first_pair_holds : (K : PairColouring) (k : ℕ) (p : ℕ × ℕ) → first_pair_of K k ≡ Some p → IsPairOf K k p
 first_pair_holds K k p e =
     let f = find_holds (InSquare K.size) (λ q. colour_at K q.0 q.1 == k) (walk K.size) p (Each-walk K.size) e in
     record { row = f.0.0; column = f.0.1; colour = eqb-true _ k f.1 }
@@ -107,7 +102,7 @@ first_pair_some K h k l = by (first_pair_of K k) refl
     by None e = absurd (no_colour K k e (class_is_colour K h k l))
     by (Some p) e = e ∙ ap Some (sym (ap (λ o. unwrap_or o (0, 0)) e))
 
-pub pair_of_class-holds : (K : PairColouring) → IsConfiguration K → (k : ℕ) → k < rank_of K → HasFirstPair K k (pair_of_class K k)
+pub pair_of_class-holds : (K : PairColouring) → IsConfiguration K → (k : ℕ) → k < rank_of K → IsPairOf K k (pair_of_class K k)
 pair_of_class-holds K h k l = first_pair_holds K k (pair_of_class K k) (first_pair_some K h k l)
 
 -- what is known of a first pair is known of the pair of its class

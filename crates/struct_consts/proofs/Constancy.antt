@@ -1,25 +1,16 @@
 -- In a coherent configuration what is counted at the first pair of a class is the same at each of its pairs.
-use Rattle.std.proofs.Common.{◌≡◌, ◌==◌, ◌&&◌, ℕ, suc, zero, ◌<◌, Bool, true, false, List, get_or, count_by, ⊎_elim, refl, sym, ap, subst, ◌∙◌, arith}
+use Rattle.std.proofs.Common.{◌≡◌, ◌==◌, ◌&&◌, ℕ, ◌<◌, false, List, ⊎_elim, refl, sym, ap, subst, ◌∙◌, arith}
 use Rattle.std.proofs.lemmas.Bool.{cases_eq, eq-eqb, ne_eqb, and_from, and_left}
-use Rattle.std.proofs.lemmas.List.FromFn.{get_or-range_with_len, length-range_with_len}
-use Rattle.std.proofs.lemmas.List.Sums.{get_or-le-sum_by}
-use Rattle.pair_colours.specs.Colouring.{PairColouring, colour_at, points, triangles}
+use Rattle.pair_colours.specs.Colouring.{PairColouring, colour_at, triangles}
 use Rattle.pair_colours.specs.Closure.{Coherent}
 use Rattle.pair_colours.specs.Naming.{rank_of}
 use Rattle.pair_colours.specs.IntersectionNumber.{pair_of_class, intersection_number}
-use Rattle.pair_colours.proofs.Counts.{count_by_points, unit_of, triangle_point}
-use Rattle.pair_colours.proofs.Measure.{sum_by_points_more}
+use Rattle.pair_colours.proofs.Counts.{count_by_points, triangle_point}
 use Rattle.triangle_count.specs.declared.rows.Entry.{Entry}
 use Rattle.triangle_count.specs.Row.{IsRowAt}
 use Rattle.struct_consts.specs.ClassData.{IsConfiguration, row_count, valency_of, fibres_of}
 use Rattle.struct_consts.proofs.Configurations.{pair_of_class-holds}
-
--- a point that passes a test is counted
-pub counted : (p : ℕ → Bool) (n z : ℕ) → z < n → p z ≡ true → 0 < count_by p (points n)
-counted p n z l e =
-    let at : get_or (points n) z 0 ≡ z = omega (arith, get_or-range_with_len 0 n z 0 l) in
-    let term = get_or-le-sum_by (λ w. unit_of (p w)) (points n) z 0 (omega (arith, l, length-range_with_len 0 n)) in
-    omega (arith, term, ap (λ w. unit_of (p w)) at, ap unit_of e)
+use Rattle.struct_consts.proofs.Sums.{counted, sum_zero}
 
 -- the triangle numbers at every pair of class k are its intersection numbers
 pub triangles-constant : (K : PairColouring) → IsConfiguration K → (k x y i j : ℕ) → k < rank_of K → x < K.size → y < K.size → colour_at K x y ≡ k
@@ -80,11 +71,7 @@ pub row_count-other : (K : PairColouring) → Coherent K → (x a b : ℕ) → x
 row_count-other K h x a b hx ha hb ne =
     count_by_points (λ v. colour_at K x v == colour_at K a b) (λ v. false) K.size
     (λ v hv. ne_eqb _ _ (λ s. ne (fibre_same K h x v a b hx hv ha hb s)))
-    ∙ none K.size
-  where
-    none : (n : ℕ) → count_by (λ v. false) (points n) ≡ 0
-    none zero = refl
-    none (suc n) = omega (arith, sum_by_points_more (λ _. 0) n, none n)
+    ∙ sum_zero K.size
 
 -- every point of its first fibre sees a class as often as its valency says
 pub valency-fibre : (K : PairColouring) → IsConfiguration K → (k x : ℕ) → k < rank_of K → x < K.size → colour_at K x x ≡ (fibres_of K k).0 → row_count K x k ≡ valency_of K k

@@ -1,8 +1,10 @@
-pub mod Configurations
-pub mod Constancy
 pub mod LawProofs
-pub mod PassLemmas
-pub mod LookupLemmas
-pub mod KeptLemmas
+mod Configurations
+mod Constancy
+mod ConstantSums
+pub mod Sums
+mod PassLemmas
+mod LookupLemmas
+mod KeptLemmas
 pub mod Literals
 pub mod TestColourings

@@ -11,6 +11,12 @@ pub record IsConfiguration (K : PairColouring) : Type 0 where
   pub coherent : Coherent K
   pub named : named_of K ≡ K
 
+-- p is a pair of points with the colour k
+pub record IsPairOf (K : PairColouring) (k : ℕ) (p : ℕ × ℕ) : Type 0 where
+  pub row : p.0 < K.size
+  pub column : p.1 < K.size
+  pub colour : colour_at K p.0 p.1 ≡ k
+
 -- how many points have the colour k from x
 abbrev pub row_count : PairColouring → ℕ → ℕ → ℕ
 row_count K x k = count_by (λ v. colour_at K x v == k) (points K.size)

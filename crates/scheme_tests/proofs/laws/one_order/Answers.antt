@@ -1,4 +1,4 @@
-use Rattle.scheme_tests.proofs.OneOrder.{one_order_is_enough}
+use Rattle.scheme_tests.proofs.LawProofs.{one_order_is_enough}
 use Rattle.scheme_tests.proofs.laws.one_order.Goals as goal
 
 pub returns : goal.returns

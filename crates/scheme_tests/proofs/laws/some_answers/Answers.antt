@@ -1,4 +1,4 @@
-use Rattle.scheme_tests.proofs.SomeAnswers.{answers_exist}
+use Rattle.scheme_tests.proofs.LawProofs.{answers_exist}
 use Rattle.scheme_tests.proofs.laws.some_answers.Goals as goal
 
 pub returns : goal.returns

@@ -1,0 +1,11 @@
+-- The proofs of the laws, under the names by which crates above cite them.
+use Rattle.drg_arrays.specs.Graph.{graph_of}
+use Rattle.drg_arrays.specs.Law.{AnswerExists, AnswerIsUnique}
+use Rattle.drg_arrays.proofs.OneAnswer.{IsGraphAnswer-same}
+use Rattle.drg_arrays.proofs.SomeAnswer as some
+
+pub answer_exists : AnswerExists
+answer_exists = some.answer_exists
+
+pub answer_is_unique : AnswerIsUnique
+answer_is_unique C S answer h other k = IsGraphAnswer-same (graph_of C S) other answer k h

@@ -1,0 +1,4 @@
+pub mod Pieces
+pub mod BuiltActs
+pub mod ReadFiles
+pub mod FirstBad

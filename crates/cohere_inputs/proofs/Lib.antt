@@ -1,4 +1,6 @@
-pub mod Pieces
-pub mod BuiltActs
-pub mod ReadFiles
-pub mod FirstBad
+mod Pieces
+mod BuiltActs
+mod ReadFiles
+mod RunFiles
+mod FirstBad
+pub mod LawProofs

@@ -178,8 +178,8 @@ same_first_in files (first ∷ rest) need other fault another (inr a) bad (inr b
 -- ---- a task
 
 pub none_or_first_bad : NoneOrFirstBad
-none_or_first_bad files (Run relation script line) asked =
-    let task = Run relation script line in
+none_or_first_bad files (Run run) asked =
+    let task = Run run in
     ⊎_elim (λ good. inl (record { needs = named_files task; loaded = refl; good = good }))
     (λ (bad : HasFirstBad files (named_files task)). inr (bad.0, bad.1, (record { needs = named_files task; loaded = refl; reached = bad.2 }, bad.3)))
     (none_or_first_in files (named_files task) (asked, (tt, tt)))

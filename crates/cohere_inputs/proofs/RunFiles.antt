@@ -6,19 +6,19 @@ use Rattle.scheme_io.specs.Count.{Rose}
 use Rattle.scheme_io.specs.Files.{Files}
 use Rattle.cohere_inputs.specs.declared.faults.Unread.{Unread}
 use Rattle.cohere_inputs.specs.declared.faults.Unread.TheVariants.{Bad, StoreFailed, NoMemory}
-use Rattle.cohere_inputs.specs.Task.{Run}
+use Rattle.cohere_inputs.specs.Task.{Run, RunWords}
 use Rattle.cohere_inputs.specs.Needs.{Need, named_files, script_need}
 use Rattle.cohere_inputs.specs.Bad.{IsRelationFile, IsFault}
 use Rattle.cohere_inputs.specs.Unread.{IsCause, ComesTo}
 use Rattle.cohere_inputs.proofs.Pieces.{Rose_since}
 
 -- after the relation the script is loaded
-pub script_reached : (files : Option Files) (relation script : List ℕ) (line : ℕ) (C : PairColouring) → IfSome files (λ files. IsRelationFile files relation line C)
-    → ComesTo files (Run relation script line) (script_need script)
-script_reached None relation script line C read = (1, omega arith, refl)
-script_reached (Some files) relation script line C read =
+pub script_reached : (files : Option Files) (run : RunWords) (C : PairColouring) → IfSome files (λ files. IsRelationFile files run.relation run.line C)
+    → ComesTo files (Run run) (script_need run.script)
+script_reached None run C read = (1, omega arith, refl)
+script_reached (Some files) run C read =
     record {
-      needs = named_files (Run relation script line);
+      needs = named_files (Run run);
       loaded = refl;
       reached = inr (record { bytes = read.bytes; file = read.file; text = (C, read.reads) }, inl refl);
     }

@@ -19,7 +19,7 @@ script_need name = record { name = name; kind = kinds.Script }
 
 -- the files that the words name, in the order in which they are loaded
 abbrev pub named_files : Task → List Need
-named_files (Run relation script line) = relation_need relation line ∷ script_need script ∷ []
+named_files (Run run) = relation_need run.relation run.line ∷ script_need run.script ∷ []
 
 -- the files that are loaded for the task, in order
 abbrev pub AreLoaded : Files → Task → List Need → Type 0

@@ -6,7 +6,7 @@ ghost use Rattle.pair_colours.specs.Colouring.{IsRawColouring};
 ghost use Rattle.cohere_inputs.specs.Acts.{AreBuilt};
 ghost use Rattle.cohere_inputs.specs.Asked.{asked_run};
 ghost use Rattle.cohere_inputs.specs.RunForm.{run_of, run_in, AreRunInputs};
-ghost use Rattle.cohere_inputs.specs.Task.{IsAsked};
+ghost use Rattle.cohere_inputs.specs.Task.{Run, IsAsked};
 ghost use Rattle.cohere_inputs.specs.Unread.{Halts};
 ghost use Rattle.cohere_inputs.specs.Words.{texts};
 
@@ -34,7 +34,7 @@ pub struct RunWords<'a> {
 fn run_at<'a>(relation: &'a str, script: &'a str, line: u32) -> Option<RunWords<'a>>
     ensures words { MatchOption result (run_of relation.now script.now (Some line) ≡ None)
         (λ words. run_of relation.now script.now (Some line) ≡ Some (asked_run words)) }
-    ensures within { IfSome result (λ words. IsAsked (asked_run words)) }
+    ensures within { IfSome result (λ words. IsAsked (Run (asked_run words))) }
 {
     if !(relation == "-" && script == "-") && line >= 1 && line <= MOST_LINE {
         Some(RunWords {
@@ -50,7 +50,7 @@ fn run_at<'a>(relation: &'a str, script: &'a str, line: u32) -> Option<RunWords<
 // The run that the words after `run` ask for.
 pub(crate) fn run_words(words: &[String]) -> Option<RunWords<'_>>
     ensures words { MatchOption result (run_in (texts words.now) ≡ None) (λ run. run_in (texts words.now) ≡ Some (asked_run run)) }
-    ensures within { IfSome result (λ run. IsAsked (asked_run run)) }
+    ensures within { IfSome result (λ run. IsAsked (Run (asked_run run))) }
 {
     match words {
         [relation, script] => run_at(relation.as_str(), script.as_str(), 1),
@@ -77,15 +77,15 @@ pub fn run_inputs<'a, S: Store>(
     store: &mut S,
     words: RunWords<'a>,
 ) -> Result<RunInputs, Halt<'a>>
-    requires { IsAsked (asked_run words) }
+    requires { IsAsked (Run (asked_run words)) }
     ensures same_files { S.files store.new ≡ S.files store.old }
     ensures later { S.faults store.old ≤ S.faults store.new }
     ensures raw { IfOk result (λ inputs. IsRawColouring inputs.relation) }
     ensures built { IfOk result (λ inputs. AreBuilt inputs.lines.items) }
     ensures read { IfOk result (λ inputs. IfSome (S.files store.old) (λ files.
-        AreRunInputs files words.entry.relation.now words.entry.script.now words.entry.line inputs.relation inputs.lines.items)) }
+        AreRunInputs files (asked_run words.entry) inputs.relation inputs.lines.items)) }
     ensures halt { IfErr result (λ halt.
-        Halts (S.files store.old) (asked_run words.entry) halt.name.now halt.why (Rose (S.faults store.old) (S.faults store.new))) }
+        Halts (S.files store.old) (Run (asked_run words.entry)) halt.name.now halt.why (Rose (S.faults store.old) (S.faults store.new))) }
 {
     let relation = match relation_in(alloc, store, words.relation, words.line) {
         Ok(relation) => relation,

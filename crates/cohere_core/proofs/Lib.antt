@@ -1,7 +1,4 @@
-pub mod Pieces
-pub mod Files
 pub mod Runs
 pub mod OneOutput
-pub mod ReadRelations
-pub mod Outputs
-pub mod Halting
+pub mod Halted
+pub mod RunOutputs

@@ -38,10 +38,10 @@ use Rattle.report_text.specs.declared.graphs.GraphNote.{GraphNote}
 use Rattle.report_text.specs.declared.graphs.GraphNote.TheVariants as notes
 use Rattle.cohere_core.specs.declared.answering.SessionFault.{SessionFault}
 use Rattle.cohere_core.specs.declared.answering.SessionFault.TheVariants.{SinkFailed, NoMemory}
-use Rattle.cohere_core.specs.Acts.{is_built, AreBuilt, first_unbuilt}
+use Rattle.cohere_inputs.specs.Acts.{is_built, AreBuilt, first_unbuilt}
 use Rattle.cohere_core.specs.Answer.{AnswersArray, WritesGraph, OfConfiguration, IsHalfway, MoveTakesMemory, Moves, TakesMemory, Tells, Answers, Runs, Answered, Stopped, edit_word, move_of}
 use Rattle.cohere_core.specs.Output.{AddsScriptFront, ScriptOutput}
-use Rattle.cohere_core.proofs.Pieces.{take_into}
+use Rattle.cohere_inputs.proofs.Pieces.{take_into}
 
 -- ---- one answer
 

@@ -2,7 +2,7 @@
 use Rattle.std.specs.Prelude.{◌≡◌, ℕ, List}
 use Rattle.pair_colours.specs.Colouring.{PairColouring, IsRawColouring}
 use Rattle.script_text.specs.declared.acts.Line.{Line}
-use Rattle.cohere_core.specs.Acts.{AreBuilt}
+use Rattle.cohere_inputs.specs.Acts.{AreBuilt}
 use Rattle.cohere_core.specs.Output.{ScriptOutput}
 
 -- a script of acts that are answered has an output over every colouring that starts a history

@@ -1,4 +1,4 @@
-mod Pieces
+pub mod Pieces
 mod BuiltActs
 mod ReadFiles
 mod RunFiles

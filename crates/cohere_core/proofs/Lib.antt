@@ -1,4 +1,5 @@
-pub mod Runs
-pub mod OneOutput
-pub mod Halted
-pub mod RunOutputs
+mod RawClosures
+mod Runs
+mod OneOutput
+mod Halted
+mod RunOutputs

@@ -1,15 +1,17 @@
--- A script has no more than one output over a relation.
-use Rattle.std.proofs.Common.{◌≡◌, ◌⊎◌, ℕ, Bool, true, false, List, [], ◌∷◌, ◌++◌, Option, Some, None, ⊎_elim, refl, sym, ap, subst, ◌∙◌, inl}
-use Rattle.std.specs.Prelude.{◌↔◌, IsTrue, MatchOption}
-use Rattle.pair_colours.specs.Colouring.{PairColouring, IsRawColouring}
+-- From alike histories the lines of a script have one text, and lead to alike histories. Of a trace that is not claimed.
+use Rattle.std.proofs.Common.{◌≡◌, ◌⊎◌, ℕ, Bool, true, false, List, [], ◌∷◌, ◌++◌, Some, None, ⊎_elim, refl, sym, ap, subst, ◌∙◌, inl, suc, arith}
+use Rattle.std.specs.Prelude.{◌≢◌, ◌↔◌, IsTrue, MatchOption}
+use Rattle.pair_colours.specs.Colouring.{PairColouring}
+use Rattle.pair_colours.specs.Closure.{IsClosureOf}
 use Rattle.pair_colours.specs.Naming.{rank_of}
 use Rattle.pair_colours.proofs.Closures.{named_closure_is_unique}
-use Rattle.recolour_bench.specs.History.{History, IsHistory, present, started}
+use Rattle.recolour_bench.specs.History.{History, IsHistory, AreAlike, present}
 use Rattle.recolour_bench.specs.declared.edits.EditFault.{EditFault}
 use Rattle.recolour_bench.specs.Steps as steps
-use Rattle.recolour_bench.proofs.Stepping.{IsHistory-started, IsRawColouring-present, not_both, step_is_unique}
+use Rattle.recolour_bench.specs.Words.{edit_word}
+use Rattle.recolour_bench.proofs.LawProofs.{start_is_history, start_is_unique, step_is_unique, not_both, refusal_is_unique, refusal_is_alike, present_is_raw, present_is_unique}
 use Rattle.report_text.specs.EditLines.{ok_text, refused_text_of}
-use Rattle.report_text.specs.Matrices.{show_text}
+use Rattle.report_text.specs.Matrices.{show_text, raw_text}
 use Rattle.report_text.specs.Classes.{classes_text_of}
 use Rattle.report_text.specs.Constants.{constants_text_of}
 use Rattle.report_text.specs.Tests.{tests_text_of}
@@ -19,22 +21,23 @@ use Rattle.scheme_tests.specs.Law.{AreAnswers}
 use Rattle.drg_arrays.specs.Graph.{graph_of}
 use Rattle.drg_arrays.proofs.OneAnswer.{IsGraphAnswer-same}
 use Rattle.script_text.specs.declared.acts.Act.{Act}
-use Rattle.script_text.specs.declared.acts.Act.TheVariants.{Show, Raw, Classes, Constants, Tests, Array, Write}
+use Rattle.script_text.specs.declared.acts.Act.TheVariants.{Trace, Show, Raw, Classes, Constants, Tests, Array, Write}
 use Rattle.script_text.specs.declared.acts.Line.{Line}
 use Rattle.script_text.specs.declared.acts.GraphForm.{GraphForm}
 use Rattle.script_text.specs.declared.acts.GraphForm.TheVariants.{Graph6, Digraph6}
-use Rattle.cohere_core.specs.Answer.{AnswersArray, WritesGraph, OfConfiguration, IsAccepted, Moves, Tells, Answers, Runs, edit_word, move_of}
-use Rattle.cohere_core.specs.Output.{ScriptOutput}
+use Rattle.cohere_core.specs.Answer.{AnswersArray, WritesGraph, OfConfiguration, IsAccepted, Moves, Tells, Answers, move_of}
+use Rattle.cohere_core.specs.Law.{HasNoTrace, OutputIsUnique, RunIsUnique}
 use Rattle.cohere_core.proofs.Runs.{answer_keeps}
 
 -- ---- one answer of a query
 
--- what is said of the configuration of a history is said of one colouring
-one_text : (h : History) (P : PairColouring → List ℕ → Type 0) (t u : List ℕ) → IsHistory h → ((K : PairColouring) → P K t → P K u → t ≡ u)
-    → OfConfiguration h (λ K. P K t) → OfConfiguration h (λ K. P K u) → t ≡ u
-one_text h P t u i one a b =
+-- what is said of the configuration of alike histories is said of one colouring
+one_text : (h k : History) (P : PairColouring → List ℕ → Type 0) (t u : List ℕ) → IsHistory h → AreAlike h k → ((K : PairColouring) → P K t → P K u → t ≡ u)
+    → OfConfiguration h (λ K. P K t) → OfConfiguration k (λ K. P K u) → t ≡ u
+one_text h k P t u i alike one a b =
+    let closure = subst (IsClosureOf b.configuration) (sym (present_is_unique h k i alike)) b.closure in
     let same : b.configuration ≡ a.configuration =
-    named_closure_is_unique (present h) b.configuration a.configuration (IsRawColouring-present h i).fits.colouring b.closure a.closure in
+    named_closure_is_unique (present h) b.configuration a.configuration (present_is_raw h i).fits.colouring closure a.closure in
     one a.configuration a.holds (subst (λ (K : PairColouring). P K u) same b.holds)
 
 one_boolean : (a b : Bool) (P : Type 0) → (IsTrue a ↔ P) → (IsTrue b ↔ P) → a ≡ b
@@ -67,59 +70,78 @@ one_graph : (K : PairColouring) (form : GraphForm) (set t u : List ℕ) → Writ
 one_graph K Graph6 set t u a b = one_side _ _ _ t u _ (λ x y. x ∙ sym y) a b
 one_graph K Digraph6 set t u a b = one_side _ _ _ t u _ (λ x y. x ∙ sym y) a b
 
-one_query : (h : History) (act : Act) (t u : List ℕ) → IsHistory h → Tells h act t → Tells h act u → t ≡ u
-one_query h Show t u i a b = one_text h (λ K t. t ≡ show_text K) t u i (λ K x y. x ∙ sym y) a b
-one_query h Raw t u i a b = a ∙ sym b
-one_query h Classes t u i a b = one_text h (λ K t. t ≡ classes_text_of K) t u i (λ K x y. x ∙ sym y) a b
-one_query h Constants t u i a b = one_text h (λ K t. t ≡ constants_text_of K) t u i (λ K x y. x ∙ sym y) a b
-one_query h Tests t u i a b =
-    one_text h (λ K t. (tests : SchemeTests) × AreAnswers K tests × (t ≡ tests_text_of tests)) t u i
+one_query : (h k : History) (act : Act) (t u : List ℕ) → IsHistory h → AreAlike h k → act ≢ Trace → Tells h act t → Tells k act u → t ≡ u
+one_query h k Show t u i alike n a b = one_text h k (λ K t. t ≡ show_text K) t u i alike (λ K x y. x ∙ sym y) a b
+one_query h k Raw t u i alike n a b = a ∙ ap raw_text (present_is_unique h k i alike) ∙ sym b
+one_query h k Classes t u i alike n a b = one_text h k (λ K t. t ≡ classes_text_of K) t u i alike (λ K x y. x ∙ sym y) a b
+one_query h k Constants t u i alike n a b = one_text h k (λ K t. t ≡ constants_text_of K) t u i alike (λ K x y. x ∙ sym y) a b
+one_query h k Tests t u i alike n a b =
+    one_text h k (λ K t. (tests : SchemeTests) × AreAnswers K tests × (t ≡ tests_text_of tests)) t u i alike
     (λ K x y. x.2 ∙ ap tests_text_of (one_tests K x.0 y.0 x.1 y.1) ∙ sym y.2) a b
-one_query h (Array set) t u i a b = one_text h (λ K t. AnswersArray K set t) t u i (λ K x y. one_array K set t u x y) a b
-one_query h (Write form set) t u i a b = one_text h (λ K t. WritesGraph K form set t) t u i (λ K x y. one_graph K form set t u x y) a b
-one_query h act t u i a b = absurd a
+one_query h k (Array set) t u i alike n a b = one_text h k (λ K t. AnswersArray K set t) t u i alike (λ K x y. one_array K set t u x y) a b
+one_query h k (Write form set) t u i alike n a b = one_text h k (λ K t. WritesGraph K form set t) t u i alike (λ K x y. one_graph K form set t u x y) a b
+one_query h k Trace t u i alike n a b = absurd (n refl)
+one_query h k act t u i alike n a b = absurd a
 
 -- ---- one answer of an edit, an undo or a redo
 
-not_refused : (h : History) (move : steps.Act) (next : History) (fault : EditFault) → steps.Accepts h move next → steps.refusal h move ≡ Some fault → ⊥
-not_refused h move next fault a r = not_both h move next h a (record { fault = fault; refused = r; same = refl })
+one_accepted : (h k : History) (t u : List ℕ) → IsHistory h → AreAlike h k → IsAccepted h t → IsAccepted k u → t ≡ u
+one_accepted h k t u i alike a b = one_text h k (λ K t. t ≡ ok_text K.size (rank_of K)) t u i alike (λ K x y. x ∙ sym y) a b
 
-one_fault : (o : Option EditFault) (fault other : EditFault) → o ≡ Some fault → o ≡ Some other → fault ≡ other
-one_fault o fault other e f = let g : Some fault ≡ Some other = sym e ∙ f in cc
+one_refusal : (h k : History) (move : steps.Move) (fault other : EditFault) → IsHistory h → IsHistory k → AreAlike h k
+    → steps.IsRefused h move fault → steps.IsRefused k move other → fault ≡ other
+one_refusal h k move fault other i j alike a b = refusal_is_unique k move fault other j (refusal_is_alike h k move fault i alike a) b
 
-one_accepted : (h : History) (t u : List ℕ) → IsHistory h → IsAccepted h t → IsAccepted h u → t ≡ u
-one_accepted h t u i a b = one_text h (λ K t. t ≡ ok_text K.size (rank_of K)) t u i (λ K x y. x ∙ sym y) a b
+-- one side is accepted and the other refused
+not_refused : (h k : History) (move : steps.Move) (next : History) (fault : EditFault) → IsHistory h → IsHistory k → AreAlike h k
+    → steps.IsRefused h move fault → steps.Accepts k move next → ⊥
+not_refused h k move next fault i j alike r a = not_both k move next fault j a (refusal_is_alike h k move fault i alike r)
 
-one_move : (h : History) (move : steps.Act) (next other : History) (t u : List ℕ) → IsHistory h → IsHistory next
-    → Moves h move next t → Moves h move other u → (next ≡ other) × (t ≡ u)
-one_move h move next other t u i j a b =
+alike_back : (h k : History) → AreAlike h k → AreAlike k h
+alike_back h k alike = record { position = sym alike.position; colourings = sym alike.colourings }
+
+one_move : (h k : History) (move : steps.Move) (next other : History) (t u : List ℕ) → IsHistory h → IsHistory k → AreAlike h k → IsHistory next
+    → Moves h move next t → Moves k move other u → AreAlike next other × (t ≡ u)
+one_move h k move next other t u i j alike keeps a b =
     ⊎_elim
     (λ x. ⊎_elim
-    (λ y. let same = step_is_unique h move next other i (inl x.0) (inl y.0) in
-    (same, one_accepted next t u j x.1 (subst (λ (k : History). IsAccepted k u) (sym same) y.1)))
-    (λ y. absurd (not_refused h move next y.0 x.0 y.1)) b)
+    (λ y. let same = step_is_unique h k move next other i j alike (inl x.0) (inl y.0) in (same, one_accepted next other t u keeps same x.1 y.1))
+    (λ y. absurd (not_refused k h move next y.0 j i (alike_back h k alike) y.1 x.0)) b)
     (λ x. ⊎_elim
-    (λ y. absurd (not_refused h move other x.0 y.0 x.1))
-    (λ y. (x.2 ∙ sym y.2, x.3 ∙ ap (λ (f : EditFault). refused_text_of (edit_word f)) (one_fault (steps.refusal h move) x.0 y.0 x.1 y.1) ∙ sym y.3)) b)
+    (λ y. absurd (not_refused h k move other x.0 i j alike x.1 y.0))
+    (λ y. (
+      subst (λ (e : History). AreAlike next e) (sym y.2) (subst (λ (e : History). AreAlike e k) (sym x.2) alike),
+      x.3 ∙ ap (λ (f : EditFault). refused_text_of (edit_word f)) (one_refusal h k move x.0 y.0 i j alike x.1 y.1) ∙ sym y.3,
+    )) b)
     a
 
 -- ---- one output
 
-one_answer : (h : History) (act : Act) (next other : History) (t u : List ℕ) → IsHistory h → IsHistory next → Answers h act next t → Answers h act other u → (next ≡ other) × (t ≡ u)
-one_answer h act next other t u i j a b =
-    elim (move_of act) as (λ m. MatchOption m ((next ≡ h) × Tells h act t) (λ move. Moves h move next t) → MatchOption m ((other ≡ h) × Tells h act u) (λ move. Moves h move other u)
-    → (next ≡ other) × (t ≡ u)) [
-      | None ↦ λ x y. (x.0 ∙ sym y.0, one_query h act t u i x.1 y.1)
-      | Some move ↦ λ x y. one_move h move next other t u i j x y
+one_answer : (h k : History) (act : Act) (next other : History) (t u : List ℕ) → IsHistory h → IsHistory k → AreAlike h k → act ≢ Trace → IsHistory next
+    → Answers h act next t → Answers k act other u → AreAlike next other × (t ≡ u)
+one_answer h k act next other t u i j alike n keeps a b =
+    elim (move_of act) as (λ m. MatchOption m ((next ≡ h) × Tells h act t) (λ move. Moves h move next t) → MatchOption m ((other ≡ k) × Tells k act u) (λ move. Moves k move other u)
+    → AreAlike next other × (t ≡ u)) [
+      | None ↦ λ x y. (
+        subst (λ (e : History). AreAlike next e) (sym y.0) (subst (λ (e : History). AreAlike e k) (sym x.0) alike),
+        one_query h k act t u i alike n x.1 y.1,
+      )
+      | Some move ↦ λ x y. one_move h k move next other t u i j alike keeps x y
     ] a b
 
-one_run : (lines : List Line) (h end other : History) (t u : List ℕ) → IsHistory h → Runs h lines end t → Runs h lines other u → t ≡ u
-one_run [] h end other t u i a b = a.1 ∙ sym b.1
-one_run (line ∷ lines) h end other t u i (next, first, rest, answers, run, is) (next2, first2, rest2, answers2, run2, is2) =
-    let j = answer_keeps h line.act next first i answers in
-    let same = one_answer h line.act next next2 first first2 i j answers answers2 in
-    let rests = one_run lines next end other rest rest2 j run (subst (λ (k : History). Runs k lines other rest2) (sym same.0) run2) in
-    is ∙ ap (λ (l : List ℕ). l ++ rest) same.1 ∙ ap (λ (l : List ℕ). first2 ++ l) rests ∙ sym is2
+HasNoTrace-tail : (line : Line) (lines : List Line) → HasNoTrace (line ∷ lines) → HasNoTrace lines
+HasNoTrace-tail line lines n = λ k d l. n (suc k) d (omega (arith, l))
 
-pub one_output : (C : PairColouring) (lines : List Line) (t u : List ℕ) → IsRawColouring C → ScriptOutput C lines t → ScriptOutput C lines u → t ≡ u
-one_output C lines t u raw a b = one_run lines (started C) a.0 b.0 t u (IsHistory-started C raw) a.1 b.1
+pub run_is_unique : RunIsUnique
+run_is_unique h k end other [] t u i j alike n a b =
+    (subst (λ (e : History). AreAlike end e) (sym b.0) (subst (λ (e : History). AreAlike e k) (sym a.0) alike), a.1 ∙ sym b.1)
+run_is_unique h k end other (line ∷ lines) t u i j alike n (next, first, rest, answers, run, is) (next2, first2, rest2, answers2, run2, is2) =
+    let i2 = answer_keeps h line.act next first i answers in
+    let j2 = answer_keeps k line.act next2 first2 j answers2 in
+    let same = one_answer h k line.act next next2 first first2 i j alike (n 0 line (omega arith)) i2 answers answers2 in
+    let rests = run_is_unique next next2 end other lines rest rest2 i2 j2 same.0 (HasNoTrace-tail line lines n) run run2 in
+    (rests.0, is ∙ ap (λ (l : List ℕ). l ++ rest) same.1 ∙ ap (λ (l : List ℕ). first2 ++ l) rests.1 ∙ sym is2)
+
+pub output_is_unique : OutputIsUnique
+output_is_unique C lines t u raw n a b =
+    (run_is_unique a.0 b.0 a.2 b.2 lines t u (start_is_history C a.0 raw a.1) (start_is_history C b.0 raw b.1) (start_is_unique C a.0 b.0 a.1 b.1) n a.3 b.3).1

@@ -7,7 +7,6 @@ use Rattle.scheme_io.specs.Files.{Files}
 use Rattle.pair_colours.specs.Colouring.{PairColouring, IsRawColouring}
 use Rattle.relation_text.specs.Relation.{IsRelationText}
 use Rattle.relation_text.proofs.RawColours.{raw_colours}
-use Rattle.recolour_bench.proofs.Stepping.{IsHistory-started}
 use Rattle.script_text.specs.declared.acts.Line.{Line}
 use Rattle.cohere_inputs.specs.declared.faults.FileFault.TheVariants.{Missing, TooLong, Relation, Script, NotYet}
 use Rattle.cohere_inputs.specs.declared.faults.Unread.{Unread}
@@ -25,7 +24,7 @@ use Rattle.cohere_core.specs.Output.{AddsScriptFront}
 use Rattle.cohere_core.specs.Run.{IsDecided, IsStatusWithoutFaults, OutputAfter}
 use Rattle.cohere_core.specs.RunForm.{RunOutput, AddsRunFrontOrNothing}
 use Rattle.cohere_core.proofs.Halted.{halted_status}
-use Rattle.cohere_core.proofs.Runs.{some_output}
+use Rattle.cohere_core.proofs.Runs.{output_exists}
 
 -- what is read starts a history
 IsRawColouring-read : (text : List ℕ) (line : ℕ) (C : PairColouring) → IsRelationText text line C → IsRawColouring C
@@ -52,7 +51,7 @@ has_output files run none =
     let relation = good.0.text in
     let script = good.1.0.text in
     let raw = IsRawColouring-read good.0.bytes run.line relation.0 relation.1 in
-    let t = some_output relation.0 script.0 (IsHistory-started relation.0 raw) script.1.built in
+    let t = output_exists relation.0 script.0 raw script.1.built in
     let inputs : AreRunInputs files run relation.0 script.0 = record {
       relation = record { bytes = good.0.bytes; file = good.0.file; reads = relation.1 };
       script = record { bytes = good.1.0.bytes; file = good.1.0.file; reads = script.1 };

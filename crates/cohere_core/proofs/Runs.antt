@@ -1,19 +1,21 @@
 -- Runs of answers.
-use Rattle.std.proofs.Common.{◌≡◌, ◌≤◌, ◌<◌, ◌⊎◌, ℕ, ◌+◌, Bool, true, false, not, cond, List, [], ◌∷◌, ◌++◌, length, get_or, take, drop, Option, Some, None, ⊎_elim, refl, sym, ap, subst, ◌∙◌, arith, append_assoc, inl, inr, suc, zero}
-use Rattle.std.proofs.lemmas.List.{take_more, drop_more, take-append-drop, append-nil, get_or-drop, length-drop}
+use Rattle.std.proofs.Common.{◌≡◌, ◌≤◌, ◌<◌, ◌⊎◌, ℕ, ◌+◌, true, List, [], ◌∷◌, ◌++◌, length, get_or, take, drop, Option, Some, None, ⊎_elim, refl, sym, ap, subst, ◌∙◌, arith, append_assoc, inl, inr, suc}
+use Rattle.std.proofs.lemmas.List.{take_more, drop_more, take-append-drop, take-append-le, append-nil, get_or-drop, length-drop}
+use Rattle.std.proofs.Math.Seq.{take-append-add}
 use Rattle.std.proofs.lemmas.Option.{slice_get-get_or, slice_get_within}
-use Rattle.std.specs.Prelude.{◌≢◌, Result, Ok, Err, IfErr, OnErr, MatchOption, find, option_map, slice_get, codes}
+use Rattle.std.specs.Prelude.{◌≢◌, Result, Ok, Err, IfErr, IsErrAnd, OnErr, MatchOption, slice_get, codes}
 use Rattle.std.proofs.KnownBytes.{Appends-nil, Appends-trans}
 use Rattle.std.specs.Io.KnownBytes.{Appends}
 use Rattle.scheme_io.specs.Bytes.{AppendsPart}
-use Rattle.pair_colours.specs.Colouring.{PairColouring, FitsColouring}
+use Rattle.pair_colours.specs.Colouring.{PairColouring, FitsColouring, IsRawColouring}
 use Rattle.pair_colours.specs.Naming.{rank_of}
 use Rattle.pair_colours.proofs.Closures.{named_closure_exists}
-use Rattle.recolour_bench.specs.History.{History, IsHistory, present, started}
+use Rattle.recolour_bench.specs.History.{History, IsHistory, Starts, present}
 use Rattle.recolour_bench.specs.declared.edits.EditFault.{EditFault}
 use Rattle.recolour_bench.specs.declared.edits.EditFault.TheVariants as faults
 use Rattle.recolour_bench.specs.Steps as steps
-use Rattle.recolour_bench.proofs.Stepping.{IsRawColouring-closure, IsRawColouring-present, step_exists, step_keeps}
+use Rattle.recolour_bench.specs.Words.{edit_word}
+use Rattle.recolour_bench.proofs.LawProofs.{start_exists, start_is_history, step_exists, step_keeps, present_is_raw}
 use Rattle.report_text.specs.EditLines.{ok_text, refused_text_of}
 use Rattle.report_text.specs.Matrices.{show_text, raw_text}
 use Rattle.report_text.specs.Classes.{classes_text_of}
@@ -38,10 +40,11 @@ use Rattle.report_text.specs.declared.graphs.GraphNote.{GraphNote}
 use Rattle.report_text.specs.declared.graphs.GraphNote.TheVariants as notes
 use Rattle.cohere_core.specs.declared.answering.SessionFault.{SessionFault}
 use Rattle.cohere_core.specs.declared.answering.SessionFault.TheVariants.{SinkFailed, NoMemory}
-use Rattle.cohere_inputs.specs.Acts.{is_built, AreBuilt, first_unbuilt}
-use Rattle.cohere_core.specs.Answer.{AnswersArray, WritesGraph, OfConfiguration, IsHalfway, MoveTakesMemory, Moves, TakesMemory, Tells, Answers, Runs, Answered, Stopped, edit_word, move_of}
-use Rattle.cohere_core.specs.Output.{AddsScriptFront, ScriptOutput}
-use Rattle.cohere_inputs.proofs.Pieces.{take_into}
+use Rattle.cohere_inputs.specs.Acts.{is_built, AreBuilt}
+use Rattle.cohere_core.specs.Answer.{AnswersArray, WritesGraph, OfConfiguration, IsHalfway, MoveTakesMemory, Moves, TakesMemory, Tells, Answers, Runs, Answered, Stopped, move_of}
+use Rattle.cohere_core.specs.Law.{OutputExists, RunExists}
+use Rattle.cohere_core.specs.Output.{AddsScriptFront}
+use Rattle.cohere_core.proofs.RawClosures.{closure_is_raw}
 
 -- ---- one answer
 
@@ -50,13 +53,13 @@ has_configuration : (h : History) → IsHistory h → (P : PairColouring → Lis
     → ((K : PairColouring) → IsClosureOf K (present h) → FitsColouring K → (t : List ℕ) × P K t)
     → (t : List ℕ) × OfConfiguration h (λ K. P K t)
 has_configuration h i P text =
-    let raw = IsRawColouring-present h i in
+    let raw = present_is_raw h i in
     let K = named_closure_exists (present h) raw.fits.colouring in
-    let t = text K.0 K.1 (IsRawColouring-closure (present h) K.0 raw K.1).fits in
+    let t = text K.0 K.1 (closure_is_raw (present h) K.0 raw K.1).fits in
     (t.0, record { configuration = K.0; closure = K.1; holds = t.1 })
 
 -- every edit, undo and redo is answered
-has_move : (h : History) (move : steps.Act) → IsHistory h → (next : History) × (t : List ℕ) × Moves h move next t
+has_move : (h : History) (move : steps.Move) → IsHistory h → (next : History) × (t : List ℕ) × Moves h move next t
 has_move h move i =
     let s = step_exists h move i in
     let j = step_keeps h move s.0 i s.1 in
@@ -154,15 +157,20 @@ answer_has_bytes h act next t a =
     ] a
 
 -- an act that was not carried out, and whose refusal was not made
-refused_halfway : (fault : EditFault) (h next : History) (move : steps.Act) → (fault ≡ faults.NoMemory → MoveTakesMemory move)
-    → (fault ≢ faults.NoMemory → steps.refusal h move ≡ Some fault) → next ≡ h → IsHalfway (MoveTakesMemory move) h next (Moves h move next)
+refused_halfway : (fault : EditFault) (h next : History) (move : steps.Move) → (fault ≡ faults.NoMemory → MoveTakesMemory move)
+    → (fault ≢ faults.NoMemory → steps.IsRefused h move fault) → next ≡ h → IsHalfway (MoveTakesMemory move) h next (Moves h move next)
 refused_halfway faults.NoMemory h next move memory refused same = inl (memory refl, same)
 refused_halfway fault h next move memory refused same = inr (refused_text_of (edit_word fault), inr (fault, refused (λ e. cc), same, refl))
 
-pub refused_unanswered : {T E : Type 0} (result : Result T E) (fault : EditFault) (h next : History) (move : steps.Act) → (fault ≡ faults.NoMemory → MoveTakesMemory move)
-    → (fault ≢ faults.NoMemory → steps.refusal h move ≡ Some fault) → next ≡ h → OnErr result (IsHalfway (MoveTakesMemory move) h next (Moves h move next))
+pub refused_unanswered : {T E : Type 0} (result : Result T E) (fault : EditFault) (h next : History) (move : steps.Move) → (fault ≡ faults.NoMemory → MoveTakesMemory move)
+    → (fault ≢ faults.NoMemory → steps.IsRefused h move fault) → next ≡ h → OnErr result (IsHalfway (MoveTakesMemory move) h next (Moves h move next))
 refused_unanswered (Ok text) fault h next move memory refused same = tt
 refused_unanswered (Err wanting) fault h next move memory refused same = refused_halfway fault h next move memory refused same
+
+-- what holds at the fault that is returned
+pub at_fault : {T E : Type 0} (P : E → Type 0) (result : Result T E) (fault : E) → IsErrAnd result (λ e. e ≡ fault) → P fault → IfErr result P
+at_fault P (Ok value) fault e p = tt
+at_fault P (Err other) fault e p = subst P (sym e) p
 
 -- ---- runs
 
@@ -183,29 +191,12 @@ one_line line m next t a = (next, t, [], a, (refl, refl), sym (append-nil t))
 AreBuilt-tail : (line : Line) (lines : List Line) → AreBuilt (line ∷ lines) → AreBuilt lines
 AreBuilt-tail line lines b = λ k d l. b (suc k) d (omega (arith, l))
 
-has_run : (lines : List Line) (h : History) → IsHistory h → AreBuilt lines → (end : History) × (t : List ℕ) × Runs h lines end t
-has_run [] h i b = (h, [], (refl, refl))
-has_run (line ∷ lines) h i b =
+pub run_exists : RunExists
+run_exists h [] i b = (h, [], (refl, refl))
+run_exists h (line ∷ lines) i b =
     let a = has_answer h line.act i (b 0 line (omega arith)) in
-    let rest = has_run lines a.0 (answer_keeps h line.act a.0 a.1 i a.2) (AreBuilt-tail line lines b) in
+    let rest = run_exists a.0 lines (answer_keeps h line.act a.0 a.1 i a.2) (AreBuilt-tail line lines b) in
     (rest.0, a.1 ++ rest.1, (a.0, a.1, rest.1, a.2, rest.2, refl))
-
--- no line is unbuilt
-pub built_from_none : (lines : List Line) → first_unbuilt lines ≡ None → AreBuilt lines
-built_from_none [] h = λ k d l. absurd (omega (arith, l))
-built_from_none (line ∷ lines) h = λ k d l. by (is_built line.act) refl (built_from_none lines) k d l
-  where
-    by : (b : Bool) → is_built line.act ≡ b → (first_unbuilt lines ≡ None → AreBuilt lines) → AreBuilt (line ∷ lines)
-    by true e again =
-        let rest = again (sym (ap (λ b. option_map (λ (l : Line). l.number) (cond (not b) (Some line) (find (λ (l : Line). not (is_built l.act)) lines))) e) ∙ h) in
-        at_each e rest
-      where
-        at_each : is_built line.act ≡ true → AreBuilt lines → AreBuilt (line ∷ lines)
-        at_each e rest zero d l = e
-        at_each e rest (suc k) d l = rest k d (omega (arith, l))
-    by false e again =
-        let z : Some line.number ≡ None = sym (ap (λ b. option_map (λ (l : Line). l.number) (cond (not b) (Some line) (find (λ (l : Line). not (is_built l.act)) lines))) e) ∙ h in
-        absurd cc
 
 -- ---- lines that are answered one after the other
 
@@ -280,32 +271,32 @@ around lines k line e =
 AreBuilt-drop : (lines : List Line) (k : ℕ) → AreBuilt lines → AreBuilt (drop k lines)
 AreBuilt-drop lines k b = λ j d l. subst (λ (x : Line). is_built x.act ≡ true) (sym (get_or-drop k lines j d)) (b (k + j) d (omega (arith, l, length-drop k lines)))
 
--- what was written when a session stopped is a front of a whole output
-pub front_of_output : (fault : SessionFault) (C : PairColouring) (lines : List Line) (bench : History) (a b : Option (List ℕ)) → IsHistory (started C) → AreBuilt lines
-    → Stopped fault (started C) lines bench a b → AddsScriptFront C lines a b
-front_of_output fault C lines bench a b i built s =
-    let after = answer_keeps s.at s.line.act s.next s.answer (runs_keep (take s.count lines) (started C) s.at s.text i s.run) s.answers in
-    let rest = has_run (drop (s.count + 1) lines) s.next after (AreBuilt-drop lines (s.count + 1) built) in
-    let whole : Runs (started C) (take s.count lines ++ s.line ∷ drop (s.count + 1) lines) rest.0 (s.text ++ (s.answer ++ rest.1)) =
-    runs-append (take s.count lines) (s.line ∷ drop (s.count + 1) lines) (started C) s.at rest.0 s.text (s.answer ++ rest.1) s.run
-    (s.next, s.answer, rest.1, s.answers, rest.2, refl) in
-    let le : s.part ≤ length s.answer = omega (arith, s.proper) in (
-      s.text ++ (s.answer ++ rest.1),
-      length s.text + s.part,
-      (rest.0, subst (λ (l : List Line). Runs (started C) l rest.0 (s.text ++ (s.answer ++ rest.1))) (around lines s.count s.line s.is_next) whole),
-      subst (Appends a b) (sym (take_into s.text s.answer rest.1 s.part le)) s.added,
-    )
-
 -- every script has an output
-pub some_output : (C : PairColouring) (lines : List Line) → IsHistory (started C) → AreBuilt lines → (t : List ℕ) × ScriptOutput C lines t
-some_output C lines i built = let run = has_run lines (started C) i built in (run.1, (run.0, run.2))
+pub output_exists : OutputExists
+output_exists C lines raw built =
+    let start = start_exists C raw in
+    let run = run_exists start.0 lines (start_is_history C start.0 raw start.1) built in
+    (run.1, (start.0, start.1, run.0, run.2))
 
 -- before the first line nothing of it was written
-pub nothing_of_output : (C : PairColouring) (lines : List Line) (a : Option (List ℕ)) → IsHistory (started C) → AreBuilt lines → AddsScriptFront C lines a a
-nothing_of_output C lines a i built = let t = some_output C lines i built in (t.0, 0, t.1, Appends-nil a)
+pub nothing_of_output : (C : PairColouring) (lines : List Line) (a : Option (List ℕ)) → IsRawColouring C → AreBuilt lines → AddsScriptFront C lines a a
+nothing_of_output C lines a raw built = let t = output_exists C lines raw built in (t.0, 0, t.1, Appends-nil a)
 
--- a session over a bench that was started with C
-pub front_after : (result : Result (Unit {0}) SessionFault) (C : PairColouring) (lines : List Line) (h bench : History) (a b : Option (List ℕ)) → IsHistory (started C) → AreBuilt lines
-    → h ≡ started C → IfErr result (λ fault. Stopped fault h lines bench a b) → OnErr result (AddsScriptFront C lines a b)
-front_after (Ok done) C lines h bench a b i built e s = tt
-front_after (Err fault) C lines h bench a b i built e s = front_of_output fault C lines bench a b i built (subst (λ (k : History). Stopped fault k lines bench a b) e s)
+-- what was written when a session stopped is a front of a whole output
+pub front_of_output : (fault : SessionFault) (C : PairColouring) (lines : List Line) (start bench : History) (a b : Option (List ℕ)) → IsRawColouring C → AreBuilt lines → Starts C start
+    → Stopped fault start lines bench a b → AddsScriptFront C lines a b
+front_of_output fault C lines start bench a b raw built starts s =
+    let i = start_is_history C start raw starts in
+    let after = answer_keeps s.at s.line.act s.next s.answer (runs_keep (take s.count lines) start s.at s.text i s.run) s.answers in
+    let rest = run_exists s.next (drop (s.count + 1) lines) after (AreBuilt-drop lines (s.count + 1) built) in
+    let whole : Runs start (take s.count lines ++ s.line ∷ drop (s.count + 1) lines) rest.0 (s.text ++ (s.answer ++ rest.1)) =
+    runs-append (take s.count lines) (s.line ∷ drop (s.count + 1) lines) start s.at rest.0 s.text (s.answer ++ rest.1) s.run
+    (s.next, s.answer, rest.1, s.answers, rest.2, refl) in
+    let le : s.part ≤ length s.answer = omega (arith, s.proper) in
+    let front : take (length s.text + s.part) (s.text ++ (s.answer ++ rest.1)) ≡ s.text ++ take s.part s.answer =
+    take-append-add s.text (s.answer ++ rest.1) s.part ∙ ap (λ (l : List ℕ). s.text ++ l) (take-append-le s.part s.answer rest.1 le) in (
+      s.text ++ (s.answer ++ rest.1),
+      length s.text + s.part,
+      (start, starts, rest.0, subst (λ (l : List Line). Runs start l rest.0 (s.text ++ (s.answer ++ rest.1))) (around lines s.count s.line s.is_next) whole),
+      subst (Appends a b) (sym front) s.added,
+    )

@@ -5,10 +5,10 @@ use Rattle.pair_colours.specs.Colouring.{PairColouring}
 use Rattle.pair_colours.specs.Closure.{IsClosureOf}
 use Rattle.pair_colours.specs.Naming.{rank_of}
 use Rattle.recolour_bench.specs.History.{History, present}
-use Rattle.recolour_bench.specs.declared.edits.Edit.TheVariants as edits
 use Rattle.recolour_bench.specs.declared.edits.EditFault.{EditFault}
-use Rattle.recolour_bench.specs.declared.edits.EditFault.TheVariants as faults
+use Rattle.recolour_bench.specs.Edits as edits
 use Rattle.recolour_bench.specs.Steps as steps
+use Rattle.recolour_bench.specs.Words.{edit_word}
 use Rattle.report_text.specs.EditLines.{ok_text, refused_text_of}
 use Rattle.report_text.specs.Matrices.{show_text, raw_text}
 use Rattle.report_text.specs.Classes.{classes_text_of}
@@ -32,16 +32,6 @@ use Rattle.report_text.specs.declared.graphs.GraphNote.TheVariants as notes
 use Rattle.cohere_core.specs.declared.answering.SessionFault.{SessionFault}
 use Rattle.cohere_core.specs.declared.answering.SessionFault.TheVariants.{SinkFailed, NoMemory}
 
--- a refusal is answered by the name of its variant
-abbrev pub edit_word : EditFault → List ℕ
-edit_word faults.PointRange = codes "PointRange"
-edit_word faults.ColourRange = codes "ColourRange"
-edit_word faults.ColourAbsent = codes "ColourAbsent"
-edit_word faults.HistoryFull = codes "HistoryFull"
-edit_word faults.NothingToUndo = codes "NothingToUndo"
-edit_word faults.NothingToRedo = codes "NothingToRedo"
-edit_word faults.NoMemory = codes "NoMemory"
-
 -- it holds of the configuration of the history: the closure of the present colouring
 pub record OfConfiguration (h : History) (P : PairColouring → Type 0) : Type 0 where
   pub configuration : PairColouring
@@ -52,14 +42,14 @@ pub record OfConfiguration (h : History) (P : PairColouring → Type 0) : Type 0
 abbrev pub IsAccepted : History → List ℕ → Type 0
 IsAccepted h t = OfConfiguration h (λ K. t ≡ ok_text K.size (rank_of K))
 
--- t answers an edit, an undo or a redo at h, which leads to next
-abbrev pub Moves : History → steps.Act → History → List ℕ → Type 0
+-- t answers an edit, an undo or a redo at h, which leads to next: it was accepted, or it was refused and has changed nothing
+abbrev pub Moves : History → steps.Move → History → List ℕ → Type 0
 Moves h move next t =
     (steps.Accepts h move next × IsAccepted next t)
-    ⊎ ((fault : EditFault) × (steps.refusal h move ≡ Some fault) × (next ≡ h) × (t ≡ refused_text_of (edit_word fault)))
+    ⊎ ((fault : EditFault) × steps.IsRefused h move fault × (next ≡ h) × (t ≡ refused_text_of (edit_word fault)))
 
 -- the edit, undo or redo that a line asks for
-abbrev pub move_of : Act → Option steps.Act
+abbrev pub move_of : Act → Option steps.Move
 move_of (Set x y colour) = Some (steps.edits (edits.Set x y colour))
 move_of (Both x y colour) = Some (steps.edits (edits.Both x y colour))
 move_of (Fix x) = Some (steps.edits (edits.Fix x))
@@ -100,7 +90,7 @@ abbrev pub Answers : History → Act → History → List ℕ → Type 0
 Answers h act next t = MatchOption (move_of act) ((next ≡ h) × Tells h act t) (λ move. Moves h move next t)
 
 -- an edit takes memory; an undo and a redo take none, so that only their answers can fail
-abbrev pub MoveTakesMemory : steps.Act → Type 0
+abbrev pub MoveTakesMemory : steps.Move → Type 0
 MoveTakesMemory (steps.edits edit) = ⊤
 MoveTakesMemory steps.undoes = ⊥
 MoveTakesMemory steps.redoes = ⊥

@@ -2,13 +2,13 @@
 use Rattle.std.specs.Prelude.{ℕ, List, take, Option}
 use Rattle.std.specs.Io.KnownBytes.{Appends}
 use Rattle.pair_colours.specs.Colouring.{PairColouring}
-use Rattle.recolour_bench.specs.History.{History, started}
+use Rattle.recolour_bench.specs.History.{History, Starts}
 use Rattle.script_text.specs.declared.acts.Line.{Line}
 use Rattle.cohere_core.specs.Answer.{Runs}
 
--- t is the answers of the lines, along a run that starts at a history of the one colouring C
+-- t is the answers of the lines, along a run from a history that starts with C
 abbrev pub ScriptOutput : PairColouring → List Line → List ℕ → Type 0
-ScriptOutput C lines t = (end : History) × Runs (started C) lines end t
+ScriptOutput C lines t = (start : History) × Starts C start × (end : History) × Runs start lines end t
 
 -- an output of the script was added
 abbrev pub AddsScript : PairColouring → List Line → Option (List ℕ) → Option (List ℕ) → Type 0

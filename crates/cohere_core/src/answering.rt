@@ -23,12 +23,35 @@ pub enum SessionFault {
     NoMemory,
 }
 
+impl From<NoMemory> for SessionFault {
+    ghost use Rattle.std.specs.Prelude.{◌≡◌};
+    ghost use Rattle.cohere_core.specs.declared.answering.SessionFault.TheVariants.{NoMemory as WantOfMemory};
+
+    ghost from_gives = { λ _ fault. fault ≡ WantOfMemory };
+
+    fn from(_error: NoMemory) -> SessionFault {
+        SessionFault::NoMemory
+    }
+}
+
+impl From<SinkFault> for SessionFault {
+    ghost use Rattle.std.specs.Prelude.{◌≡◌};
+    ghost use Rattle.cohere_core.specs.declared.answering.SessionFault.TheVariants.{SinkFailed};
+
+    ghost from_gives = { λ _ fault. fault ≡ SinkFailed };
+
+    fn from(_fault: SinkFault) -> SessionFault {
+        SessionFault::SinkFailed
+    }
+}
+
 /// Answers the lines in order, each answer made whole before its first byte is written.
 ///
 /// A line that is refused is answered by the name of the refusal, and changes nothing. After a
 /// fault the bench stands before the line that was not answered, or after it (after it where the
 /// line is an undo or a redo); what was written is the answers of the lines before it, and where
-/// the sink failed a front of its answer.
+/// the sink failed a front of its answer. A further session goes on from there: the lines that are
+/// left have answers from every history (`laws::outputs`).
 pub fn session<O: Sink>(
     alloc: Global,
     bench: &mut Bench,
@@ -44,14 +67,8 @@ pub fn session<O: Sink>(
     // Read for its clause alone: the bench stands for a history.
     let _start = bench.position();
     for line in lines {
-        let text = match answer(alloc, bench, &line.act) {
-            Ok(text) => text,
-            Err(NoMemory) => return Err(SessionFault::NoMemory),
-        };
-        match put_all(out, &text) {
-            Ok(()) => {}
-            Err(SinkFault) => return Err(SessionFault::SinkFailed),
-        }
+        let text = answer(alloc, bench, &line.act)?;
+        put_all(out, &text)?;
     }
     Ok(())
 }
@@ -69,9 +86,6 @@ pub(crate) fn answer_script<O: Sink>(
     ensures front { OnErr result (AddsScriptFront relation lines.now (O.written out.old) (O.written out.new)) }
     ensures failed { IsErrOf result SessionFault.SinkFailed → Rose (O.faults out.old) (O.faults out.new) }
 {
-    let mut bench = match Bench::new(alloc, relation) {
-        Ok(bench) => bench,
-        Err(NoMemory) => return Err(SessionFault::NoMemory),
-    };
+    let mut bench = Bench::new(alloc, relation)?;
     session(alloc, &mut bench, lines, out)
 }

@@ -4,7 +4,7 @@ ghost use Rattle.std.specs.Prelude.{◌≡◌, ◌≢◌, ℕ, List, true, IfOk,
 ghost use Rattle.recolour_bench.specs.History.{IsHistory};
 ghost use Rattle.recolour_bench.specs.Steps as steps;
 ghost use Rattle.cohere_inputs.specs.Acts.{is_built};
-ghost use Rattle.cohere_core.specs.Answer.{Answers, IsAccepted, IsHalfway, MoveTakesMemory, Moves, TakesMemory, edit_word, move_of};
+ghost use Rattle.cohere_core.specs.Answer.{Answers, IsAccepted, IsHalfway, MoveTakesMemory, Moves, TakesMemory, move_of};
 ghost use Rattle.cohere_core.specs.Move.{asked_move};
 
 use crate::queries::query_answer;
@@ -13,21 +13,6 @@ use recolour_bench::{Bench, Edit, EditFault};
 use report_text::{edit_text, refused_text};
 use script_text::Act;
 use std::alloc::Global;
-
-// The name of the refusal.
-fn word_of(fault: EditFault) -> &'static str
-    ensures { result.now ≡ edit_word fault }
-{
-    match fault {
-        EditFault::PointRange => "PointRange",
-        EditFault::ColourRange => "ColourRange",
-        EditFault::ColourAbsent => "ColourAbsent",
-        EditFault::HistoryFull => "HistoryFull",
-        EditFault::NothingToUndo => "NothingToUndo",
-        EditFault::NothingToRedo => "NothingToRedo",
-        EditFault::NoMemory => "NoMemory",
-    }
-}
 
 // The answer of an edit, an undo or a redo that led to what the bench stands for.
 fn accepted(alloc: Global, bench: &Bench) -> Result<Vec<u8>, NoMemory>
@@ -66,7 +51,7 @@ fn asked_for(act: &Act) -> Option<Move>
 // Carries out an edit, an undo or a redo.
 fn carry_out(bench: &mut Bench, step: Move) -> Result<(), EditFault>
     ensures accepted { OnOk result (steps.Accepts bench.old (asked_move step) bench.new) }
-    ensures refused { IfErr result (λ fault. fault ≢ EditFault.NoMemory → steps.refusal bench.old (asked_move step) ≡ Some fault) }
+    ensures refused { IfErr result (λ fault. fault ≢ EditFault.NoMemory → steps.IsRefused bench.old (asked_move step) fault) }
     ensures unchanged { OnErr result (bench.new ≡ bench.old) }
     ensures memory { IsErrOf result EditFault.NoMemory → MoveTakesMemory (asked_move step) }
     ensures within { IsHistory bench.new }
@@ -87,7 +72,7 @@ fn move_answer(alloc: Global, bench: &mut Bench, step: Move) -> Result<Vec<u8>, 
     match carry_out(bench, step) {
         Ok(()) => accepted(alloc, bench),
         Err(EditFault::NoMemory) => Err(NoMemory),
-        Err(fault) => refused_text(alloc, word_of(fault)),
+        Err(fault) => refused_text(alloc, fault.as_str()),
     }
 }
 

@@ -5,7 +5,7 @@
 //! * `halting`: the status where a file was not read.
 //! * `answering`: `session`, the answers of a script line by line; `answers`: one of them, and
 //!   `queries`: one that changes nothing.
-//! * `laws`: every script over every relation has exactly one output.
+//! * `laws`: every script has an output over every relation, and only one where it asks for no trace.
 //!
 //! The definitions stand in `specs/`: `Run` says what holds after each status, with a case for each
 //! form of words (`RunForm`), and `Output` and `Answer` what is written. The words, the files and

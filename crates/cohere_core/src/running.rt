@@ -47,9 +47,8 @@ pub fn run<S: Store, O: Sink, E: Sink>(
     ensures sink_failed { result ≡ Status.SinkFailed → Rose (O.faults out.old) (O.faults out.new) }
 
     // Completeness: the status where no count of faults rose.
-    ensures complete { IfAsked words.now (λ task.
-        ¬ Rose (S.faults store.old) (S.faults store.new) → ¬ Rose (O.faults out.old) (O.faults out.new)
-        → IsStatusWithoutFaults task result (S.files store.old)) }
+    ensures complete { ¬ Rose (S.faults store.old) (S.faults store.new) → ¬ Rose (O.faults out.old) (O.faults out.new)
+        → IfAsked words.now (λ task. IsStatusWithoutFaults task result (S.files store.old)) }
 
     ensures same_files { S.files store.new ≡ S.files store.old }
 {

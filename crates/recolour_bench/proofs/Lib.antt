@@ -1,5 +1,9 @@
-pub mod Recoloured
-pub mod Unused
-pub mod Joined
-pub mod Stepping
-pub mod Keeping
+mod Recoloured
+mod Unused
+mod Joined
+mod RawClosure
+mod RawEdits
+mod Stepping
+mod Alike
+mod Keeping
+pub mod LawProofs

@@ -1,4 +1,7 @@
+pub mod Edits
 pub mod Recolouring
 pub mod History
 pub mod Steps
+pub mod Law
+pub mod Words
 pub mod Kept

@@ -3,8 +3,7 @@ use Rattle.std.specs.Prelude.{◌==◌, ◌&&◌, ◌||◌, not, ℕ, ◌+◌, �
 use Rattle.std.specs.List.{position_or_len}
 use Rattle.pair_colours.specs.Colouring.{PairColouring, IsColour, colour_at, points}
 use Rattle.pair_colours.specs.Naming.{first_pair_of}
-use Rattle.recolour_bench.specs.declared.edits.Edit.{Edit}
-use Rattle.recolour_bench.specs.declared.edits.Edit.TheVariants.{Set, Both, Fix, Join, Adopt}
+use Rattle.recolour_bench.specs.Edits.{Edit, Set, Both, Fix, Join, Adopt}
 
 -- some pair of C has the colour
 abbrev pub has_colour : PairColouring → ℕ → Bool

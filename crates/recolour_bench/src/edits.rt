@@ -2,6 +2,7 @@
 
 ghost use Rattle.std.specs.Prelude.{◌≡◌};
 ghost use Rattle.recolour_bench.specs.declared.edits.EditFault.TheVariants.{NoMemory as WantOfMemory};
+ghost use Rattle.recolour_bench.specs.Words.{edit_word};
 
 use pair_colours::NoMemory;
 
@@ -38,6 +39,23 @@ pub enum EditFault {
     NothingToRedo,
     /// There is not enough memory.
     NoMemory,
+}
+
+impl EditFault {
+    /// The word of the fault: the name of its variant.
+    pub fn as_str(self) -> &'static str
+        ensures { result.now ≡ edit_word self }
+    {
+        match self {
+            EditFault::PointRange => "PointRange",
+            EditFault::ColourRange => "ColourRange",
+            EditFault::ColourAbsent => "ColourAbsent",
+            EditFault::HistoryFull => "HistoryFull",
+            EditFault::NothingToUndo => "NothingToUndo",
+            EditFault::NothingToRedo => "NothingToRedo",
+            EditFault::NoMemory => "NoMemory",
+        }
+    }
 }
 
 impl From<NoMemory> for EditFault {

@@ -1,13 +1,14 @@
 //! The history of a colouring under edits.
 
-ghost use Rattle.std.specs.Prelude.{◌≡◌, ◌≢◌, ◌+◌, ◌<◌, ◌≤◌, ◌↔◌, ◌++◌, [], ◌∷◌, All, IfOk, IfErr, OnOk, OnErr, IsErrOf, IsOkUnless, length, take, Option, Some};
-ghost use Rattle.pair_colours.specs.Colouring.{PairColouring, FitsColouring, IsRawColouring};
+ghost use Rattle.std.specs.Prelude.{◌≡◌, ◌≢◌, ◌+◌, ◌≤◌, All, IfOk, IfErr, OnOk, OnErr, length};
+ghost use Rattle.pair_colours.specs.Colouring.{PairColouring, IsRawColouring};
 ghost use Rattle.pair_colours.specs.Closure.{IsClosureOf};
-ghost use Rattle.recolour_bench.specs.declared.edits.Edit.TheVariants.{Adopt};
-ghost use Rattle.recolour_bench.specs.History.{IsHistory, present, started};
-ghost use Rattle.recolour_bench.specs.Steps.{edits, undoes, redoes, refusal, Accepts, Step, UndoStep, RedoStep};
+ghost use Rattle.recolour_bench.specs.Edits.{Adopt, edit_of};
+ghost use Rattle.recolour_bench.specs.History.{IsHistory, Starts, present};
+ghost use Rattle.recolour_bench.specs.Steps.{edits, undoes, redoes, Accepts, IsRefused, Step};
 
 use crate::edits::{Edit, EditFault};
+use crate::kept::{Kept, put_after};
 use crate::recolouring::edited_by;
 use crate::refusals::refusal_at;
 use pair_colours::{Colouring, MOST_COLOUR, NoMemory};
@@ -18,27 +19,9 @@ use wl_refine::close_matrix;
 /// The greatest position: a history has at most one entry more.
 pub const MOST_POSITION: u32 = 256;
 
-// A colouring of the history, with its closure.
-#[derive(Drop)]
-struct Kept {
-    raw: Colouring,
-    closure: Colouring,
-}
-
-// Puts an entry after the one at the place, for all that come after it. What can fail comes first.
-fn put_after(kept: &mut Vec<Kept>, place: usize, entry: Kept) -> Result<(), NoMemory>
-    requires { place < length kept.old.items }
-    ensures ok { OnOk result (kept.new.items ≡ take (place + 1) kept.old.items ++ entry ∷ []) }
-    ensures err { OnErr result (kept.new.items ≡ kept.old.items) }
-{
-    kept.insert(place + 1, entry)?;
-    kept.truncate(place + 2);
-    Ok(())
-}
-
 // The closure of a colouring that the edit made. What `adopt` made is a closure, and so its own.
 fn closure_after(alloc: Global, edit: &Edit, raw: &Colouring) -> Result<Colouring, NoMemory>
-    requires { edit.now ≡ Adopt → IsClosureOf raw.now raw.now }
+    requires { edit_of edit.now ≡ Adopt → IsClosureOf raw.now raw.now }
     ensures { IfOk result (λ closure. IsClosureOf closure raw.now) }
 {
     match edit {
@@ -71,7 +54,7 @@ impl Bench {
     /// Starts a history with one entry.
     pub fn new(alloc: Global, raw: Colouring) -> Result<Bench, NoMemory>
         requires { All (λ colour. colour ≤ MOST_COLOUR) raw.colours }
-        ensures started { IfOk result (λ bench. bench ≡ started raw) }
+        ensures started { IfOk result (Starts raw) }
         ensures within { IfOk result IsHistory }
     {
         let closure = close_matrix(alloc, &raw)?;
@@ -120,17 +103,17 @@ impl Bench {
     /// Cuts the later entries, appends what the edit makes of the present colouring, and moves to
     /// it. After any fault the bench is as it was, its later entries too.
     pub fn edit(&mut self, edit: &Edit) -> Result<(), EditFault>
-        ensures accepted { OnOk result (Accepts self.old (edits edit.now) self.new) }
-        ensures refused { IfErr result (λ fault. fault ≢ EditFault.NoMemory → refusal self.old (edits edit.now) ≡ Some fault) }
+        ensures accepted { OnOk result (Accepts self.old (edits (edit_of edit.now)) self.new) }
+        ensures refused { IfErr result (λ fault. fault ≢ EditFault.NoMemory → IsRefused self.old (edits (edit_of edit.now)) fault) }
         ensures unchanged { OnErr result (self.new ≡ self.old) }
-        ensures step { result ≢ Err EditFault.NoMemory → Step self.old (edits edit.now) self.new }
+        ensures step { result ≢ Err EditFault.NoMemory → Step self.old (edits (edit_of edit.now)) self.new }
         ensures within { IsHistory self.new }
     {
         let now = &self.kept[self.position as usize];
-        if let Some(fault) = refusal_at(&now.raw, self.position, edit) {
+        if let Some(fault) = refusal_at(now, self.position, edit) {
             return Err(fault);
         }
-        let raw = edited_by(self.alloc, &now.raw, &now.closure, edit)?;
+        let raw = edited_by(self.alloc, now, edit)?;
         let closure = closure_after(self.alloc, edit, &raw)?;
         put_after(
             &mut self.kept,
@@ -143,9 +126,8 @@ impl Bench {
 
     /// Moves back to the entry before.
     pub fn undo(&mut self) -> Result<(), EditFault>
-        ensures moved { OnOk result (UndoStep self.old self.new) }
-        ensures nothing { IsErrOf result EditFault.NothingToUndo ↔ (self.old.position ≡ 0) }
-        ensures only { IsOkUnless result EditFault.NothingToUndo }
+        ensures accepted { OnOk result (Accepts self.old undoes self.new) }
+        ensures refused { IfErr result (IsRefused self.old undoes) }
         ensures unchanged { OnErr result (self.new ≡ self.old) }
         ensures step { Step self.old undoes self.new }
         ensures within { IsHistory self.new }
@@ -159,9 +141,8 @@ impl Bench {
 
     /// Moves on to the entry after.
     pub fn redo(&mut self) -> Result<(), EditFault>
-        ensures moved { OnOk result (RedoStep self.old self.new) }
-        ensures nothing { IsErrOf result EditFault.NothingToRedo ↔ (self.old.position + 1 ≡ length self.old.entries) }
-        ensures only { IsOkUnless result EditFault.NothingToRedo }
+        ensures accepted { OnOk result (Accepts self.old redoes self.new) }
+        ensures refused { IfErr result (IsRefused self.old redoes) }
         ensures unchanged { OnErr result (self.new ≡ self.old) }
         ensures step { Step self.old redoes self.new }
         ensures within { IsHistory self.new }

@@ -1,17 +1,42 @@
 //! Laws over the definitions alone. Each is the contract of a function that does nothing.
 
-ghost use Rattle.recolour_bench.specs.Steps.{StartIsHistory, StepExists, StepKeeps, StepIsUnique, FixTakesLeast};
+ghost use Rattle.recolour_bench.specs.Law.{StartExists, StartIsHistory, StartIsUnique, StepExists, StepKeeps, StepIsUnique, NotBoth, RefusalIsUnique, RefusalIsAlike, PresentIsRaw, PresentIsUnique, FixTakesLeast, MostPosition};
 
-/// A colouring within the limits starts a history, and every act leads from every history to
-/// exactly one, which is a history again. So there is exactly one run along each list of acts.
+/// A colouring within the limits starts a history. All that it starts are alike.
+pub fn starts()
+    ensures exists { StartExists }
+    ensures keeps { StartIsHistory }
+    ensures unique { StartIsUnique }
+{}
+
+/// Every move leads from every history to one, which is a history again. From alike histories it
+/// leads to alike ones, so that all runs along one list of moves have the same colourings.
 pub fn steps()
-    ensures starts { StartIsHistory }
     ensures exists { StepExists }
     ensures keeps { StepKeeps }
     ensures unique { StepIsUnique }
 {}
 
+/// A move is either accepted or refused, and if it is refused then with one fault. Alike histories
+/// refuse alike.
+pub fn refusals()
+    ensures not_both { NotBoth }
+    ensures unique { RefusalIsUnique }
+    ensures alike { RefusalIsAlike }
+{}
+
+/// The present colouring is within the limits, and alike histories have the same one.
+pub fn present_colouring()
+    ensures raw { PresentIsRaw }
+    ensures unique { PresentIsUnique }
+{}
+
 /// The number that `fix` gives a point is the least that no pair has.
 pub fn fix()
     ensures { FixTakesLeast }
+{}
+
+/// A history has at most 257 entries.
+pub fn limits()
+    ensures { MostPosition }
 {}

@@ -2,6 +2,7 @@
 //!
 //! * `edits`: `Edit`, what may be done to the present colouring, and `EditFault`, why it is not.
 //! * `history`: `Bench`, the colourings that were made, under a position that `undo` and `redo` move.
+//! * `kept`: what a bench keeps of each colouring.
 //! * `refusals`: the tests of an edit, in their order.
 //! * `recolouring`: the colouring that an edit makes.
 //! * `laws`: what holds of the definitions alone.
@@ -11,6 +12,7 @@
 
 mod edits;
 mod history;
+mod kept;
 pub mod laws;
 mod recolouring;
 mod refusals;

@@ -1,10 +1,12 @@
-use Rattle.recolour_bench.proofs.Stepping.{IsHistory-started}
-use Rattle.cohere_core.proofs.Runs.{nothing_of_output, front_after}
+use Rattle.std.proofs.lemmas.Result.{IfErr-weaker, MatchResult-from_err}
+use Rattle.cohere_core.proofs.Runs.{nothing_of_output, front_of_output}
 use Rattle.cohere_core.proofs.answering.answer_script.Goals as goal
 
-pub returns-in-Err-clause-front : goal.returns-in-Err-clause-front
-returns-in-Err-clause-front g c = nothing_of_output c.args.relation c.args.lines.now _ (IsHistory-started c.args.relation c.requires.raw) c.requires.built
+pub returns-in_err-bench-clause-front : goal.returns-in_err-bench-clause-front
+returns-in_err-bench-clause-front g c =
+    MatchResult-from_err c.from_residual.result _ _ c.from_residual.ensures.0 (λ _. nothing_of_output c.args.relation c.args.lines.now _ c.requires.raw c.requires.built)
 
 pub returns-clause-front : goal.returns-clause-front
 returns-clause-front g c =
-    front_after c.session.result c.args.relation c.args.lines.now c.in-Ok.bench _ _ _ (IsHistory-started c.args.relation c.requires.raw) c.requires.built c.in-Ok.ensures.started c.session.ensures.stopped
+    IfErr-weaker c.session.result _ _
+    (λ fault. front_of_output fault c.args.relation c.args.lines.now c.in_ok-bench.bench _ _ _ c.requires.raw c.requires.built c.in_ok-bench.ensures.started) c.session.ensures.stopped

@@ -8,5 +8,5 @@ pub returns-in-Some-clause-halfway : goal.returns-in-Some-clause-halfway
 returns-in-Some-clause-halfway c =
     let old = c.args.bench.now in
     let new = c.move_answer.new.bench in
-    subst (λ (m : Option steps.Act). OnErr c.move_answer.result (IsHalfway (MatchOption m ⊤ MoveTakesMemory) old new (λ t. MatchOption m ((new ≡ old) × Tells old c.args.act.now t) (λ move. Moves old move new t))))
+    subst (λ (m : Option steps.Move). OnErr c.move_answer.result (IsHalfway (MatchOption m ⊤ MoveTakesMemory) old new (λ t. MatchOption m ((new ≡ old) × Tells old c.args.act.now t) (λ move. Moves old move new t))))
     (sym c.in-Some.ensures) c.move_answer.ensures.halfway

@@ -1,10 +1,15 @@
-use Rattle.recolour_bench.proofs.Stepping.{IsHistory-started}
-use Rattle.cohere_core.proofs.Runs.{some_output}
-use Rattle.cohere_core.proofs.OneOutput.{one_output}
+use Rattle.cohere_core.proofs.Runs.{output_exists, run_exists}
+use Rattle.cohere_core.proofs.OneOutput.{output_is_unique, run_is_unique}
 use Rattle.cohere_core.proofs.laws.outputs.Goals as goal
 
 pub returns-clause-exist : goal.returns-clause-exist
-returns-clause-exist c = λ C lines raw built. some_output C lines (IsHistory-started C raw) built
+returns-clause-exist c = output_exists
+
+pub returns-clause-from_everywhere : goal.returns-clause-from_everywhere
+returns-clause-from_everywhere c = run_exists
 
 pub returns-clause-unique : goal.returns-clause-unique
-returns-clause-unique c = one_output
+returns-clause-unique c = output_is_unique
+
+pub returns-clause-alike : goal.returns-clause-alike
+returns-clause-alike c = run_is_unique

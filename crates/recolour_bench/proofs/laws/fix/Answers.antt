@@ -1,5 +1,5 @@
-use Rattle.recolour_bench.proofs.Unused.{IsLeastUnused-least_unused}
+use Rattle.recolour_bench.proofs.LawProofs.{fix_takes_least}
 use Rattle.recolour_bench.proofs.laws.fix.Goals as goal
 
 pub returns : goal.returns
-returns c = λ C is. IsLeastUnused-least_unused C is.fits.colouring
+returns c = fix_takes_least

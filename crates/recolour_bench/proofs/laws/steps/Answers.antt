@@ -1,8 +1,5 @@
-use Rattle.recolour_bench.proofs.Stepping.{IsHistory-started, step_exists, step_keeps, step_is_unique}
+use Rattle.recolour_bench.proofs.LawProofs.{step_exists, step_keeps, step_is_unique}
 use Rattle.recolour_bench.proofs.laws.steps.Goals as goal
-
-pub returns-clause-starts : goal.returns-clause-starts
-returns-clause-starts c = IsHistory-started
 
 pub returns-clause-exists : goal.returns-clause-exists
 returns-clause-exists c = step_exists

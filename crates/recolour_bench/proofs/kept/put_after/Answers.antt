@@ -1,6 +1,6 @@
 use Rattle.std.proofs.Common.{ap, ◌∙◌, ◌+◌, take, arith}
 use Rattle.recolour_bench.proofs.Keeping.{take-insert}
-use Rattle.recolour_bench.proofs.history.put_after.Goals as goal
+use Rattle.recolour_bench.proofs.kept.put_after.Goals as goal
 
 pub returns-clause-ok : goal.returns-clause-ok
 returns-clause-ok c =

@@ -1,0 +1,45 @@
+-- The laws of this crate, for the proofs of crates above.
+use Rattle.std.proofs.Common.{refl}
+use Rattle.recolour_bench.specs.Law.{StartExists, StartIsHistory, StartIsUnique, StepExists, StepKeeps, StepIsUnique, NotBoth, RefusalIsUnique, RefusalIsAlike, PresentIsRaw, PresentIsUnique, FixTakesLeast, MostPosition}
+use Rattle.recolour_bench.proofs.Stepping as stepping
+use Rattle.recolour_bench.proofs.Alike as alike
+use Rattle.recolour_bench.proofs.Unused.{IsLeastUnused-least_unused}
+
+pub start_exists : StartExists
+start_exists = stepping.start_exists
+
+pub start_is_history : StartIsHistory
+start_is_history = stepping.start_is_history
+
+pub start_is_unique : StartIsUnique
+start_is_unique = alike.start_is_unique
+
+pub step_exists : StepExists
+step_exists = stepping.step_exists
+
+pub step_keeps : StepKeeps
+step_keeps = stepping.step_keeps
+
+pub step_is_unique : StepIsUnique
+step_is_unique = alike.step_is_unique
+
+pub not_both : NotBoth
+not_both = alike.not_both
+
+pub refusal_is_unique : RefusalIsUnique
+refusal_is_unique = alike.refusal_is_unique
+
+pub refusal_is_alike : RefusalIsAlike
+refusal_is_alike = alike.refusal_is_alike
+
+pub present_is_raw : PresentIsRaw
+present_is_raw = stepping.present_is_raw
+
+pub present_is_unique : PresentIsUnique
+present_is_unique = alike.present_is_unique
+
+pub fix_takes_least : FixTakesLeast
+fix_takes_least C is = IsLeastUnused-least_unused C is.fits.colouring
+
+pub most_position : MostPosition
+most_position = refl

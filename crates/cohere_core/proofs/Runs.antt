@@ -40,7 +40,7 @@ use Rattle.report_text.specs.declared.graphs.GraphNote.{GraphNote}
 use Rattle.report_text.specs.declared.graphs.GraphNote.TheVariants as notes
 use Rattle.cohere_core.specs.declared.answering.SessionFault.{SessionFault}
 use Rattle.cohere_core.specs.declared.answering.SessionFault.TheVariants.{SinkFailed, NoMemory}
-use Rattle.cohere_core.specs.Acts.{is_built, AreBuilt}
+use Rattle.cohere_inputs.specs.Acts.{is_built, AreBuilt}
 use Rattle.cohere_core.specs.Answer.{AnswersArray, WritesGraph, OfConfiguration, IsHalfway, MoveTakesMemory, Moves, TakesMemory, Tells, Answers, Runs, Answered, Stopped, move_of}
 use Rattle.cohere_core.specs.Law.{OutputExists, RunExists}
 use Rattle.cohere_core.specs.Output.{AddsScriptFront}

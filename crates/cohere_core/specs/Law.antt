@@ -4,7 +4,7 @@ use Rattle.pair_colours.specs.Colouring.{PairColouring, IsRawColouring}
 use Rattle.recolour_bench.specs.History.{History, IsHistory, AreAlike}
 use Rattle.script_text.specs.declared.acts.Act.TheVariants.{Trace}
 use Rattle.script_text.specs.declared.acts.Line.{Line}
-use Rattle.cohere_core.specs.Acts.{AreBuilt}
+use Rattle.cohere_inputs.specs.Acts.{AreBuilt}
 use Rattle.cohere_core.specs.Answer.{Runs}
 use Rattle.cohere_core.specs.Output.{ScriptOutput}
 

@@ -1,14 +1,8 @@
 pub mod Code
-pub mod Task
-pub mod Form
-pub mod Lines
-pub mod Said
-pub mod Acts
-pub mod Bad
-pub mod Inputs
 pub mod Answer
 pub mod Move
 pub mod Output
+pub mod RunForm
 pub mod Run
 pub mod Law
 pub mod Halt

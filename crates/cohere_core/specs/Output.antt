@@ -2,23 +2,13 @@
 use Rattle.std.specs.Prelude.{ℕ, List, take, Option}
 use Rattle.std.specs.Io.KnownBytes.{Appends}
 use Rattle.pair_colours.specs.Colouring.{PairColouring}
-use Rattle.scheme_io.specs.Files.{Files}
 use Rattle.recolour_bench.specs.History.{History, Starts}
 use Rattle.script_text.specs.declared.acts.Line.{Line}
 use Rattle.cohere_core.specs.Answer.{Runs}
-use Rattle.cohere_core.specs.Task.{Task}
-use Rattle.cohere_core.specs.Inputs.{AreInputs}
 
 -- t is the answers of the lines, along a run from a history that starts with C
 abbrev pub ScriptOutput : PairColouring → List Line → List ℕ → Type 0
 ScriptOutput C lines t = (start : History) × Starts C start × (end : History) × Runs start lines end t
-
--- t is an output of the task over these files
-pub record FileOutput (files : Files) (task : Task) (t : List ℕ) : Type 0 where
-  pub relation : PairColouring
-  pub lines : List Line
-  pub inputs : AreInputs files task relation lines
-  pub output : ScriptOutput relation lines t
 
 -- an output of the script was added
 abbrev pub AddsScript : PairColouring → List Line → Option (List ℕ) → Option (List ℕ) → Type 0

@@ -1,42 +1,33 @@
--- What a run answers, and what it adds to its output and to its errors.
-use Rattle.std.specs.Prelude.{◌≡◌, ◌≢◌, ◌⊎◌, ℕ, List, take, Option, Some, None, IfSome, IsSomeAnd, ⊤}
-use Rattle.std.specs.FinMap.{get}
-use Rattle.std.specs.Io.KnownBytes.{Appends, Keeps}
-use Rattle.scheme_io.specs.Files.{Files}
-use Rattle.cohere_core.specs.declared.bad_files.FileFault.{FileFault}
-use Rattle.cohere_core.specs.declared.bad_files.FileFault.TheVariants.{Missing}
-use Rattle.cohere_core.specs.declared.bad_files.FileRole.{FileRole}
+-- What holds after a call of the program: what it answers, and what it adds to its output and to its errors.
+-- Each form of words has its case where the forms differ.
+use Rattle.std.specs.Prelude.{◌≡◌, ◌≢◌, ◌⊎◌, ℕ, List, Option, Some, None, IfSome, IsSomeAnd, ⊤}
+use Rattle.scheme_io.specs.Files.{Files, IsMissing}
+use Rattle.cohere_inputs.specs.declared.faults.FileFault.{FileFault}
+use Rattle.cohere_inputs.specs.declared.faults.FileFault.TheVariants.{Missing}
+use Rattle.cohere_inputs.specs.Task.{Task, Run}
+use Rattle.cohere_inputs.specs.Needs.{Need}
+use Rattle.cohere_inputs.specs.Texts.{CanBe}
+use Rattle.cohere_inputs.specs.Bad.{IsFault, IsFirstBad, NoneIsBad}
+use Rattle.cohere_inputs.specs.Unread.{ComesTo}
+use Rattle.cohere_inputs.specs.Lines.{usage_line, memory_line, unread_line, fault_line}
 use Rattle.cohere_core.specs.declared.status.Status.{Status}
 use Rattle.cohere_core.specs.declared.status.Status.TheVariants.{Done, CheckedNo, Usage, BadInput, StoreFailed, SinkFailed, NoMemory}
-use Rattle.cohere_core.specs.Task.{Task}
-use Rattle.cohere_core.specs.Lines.{usage_line, memory_line, unread_line, fault_line}
-use Rattle.cohere_core.specs.Bad.{name_in, IsOfRole, IsReached, IsFirstBad, NoneIsBad}
-use Rattle.cohere_core.specs.Output.{FileOutput}
+use Rattle.cohere_core.specs.RunForm.{RunOutputAfter, RunMayAnswer}
 
--- ---- the output
+-- ---- the status and the output, by the form of the words
 
--- no file is bad, and a whole output was added
-abbrev pub AddsOutput : Files → Task → Option (List ℕ) → Option (List ℕ) → Type 0
-AddsOutput files task old new = NoneIsBad files task × ((t : List ℕ) × FileOutput files task t × Appends old new t)
+-- a task may be answered by this status
+abbrev pub MayAnswer : Task → Status → Type 0
+MayAnswer (Run run) status = RunMayAnswer status
 
--- no file is bad, and a front of an output was added
-abbrev pub AddsFront : Files → Task → Option (List ℕ) → Option (List ℕ) → Type 0
-AddsFront files task old new = NoneIsBad files task × ((t : List ℕ) × (n : ℕ) × FileOutput files task t × Appends old new (take n t))
+-- what was added to the output after this status
+abbrev pub OutputAfter : Task → Status → Option Files → Option (List ℕ) → Option (List ℕ) → Type 0
+OutputAfter (Run run) status files old new = IfSome files (λ files. RunOutputAfter run status files old new)
 
--- a front of an output was added where no file is bad, and nothing where one is
-pub record AddsFrontOrNothing (files : Files) (task : Task) (old new : Option (List ℕ)) : Type 0 where
-  pub front : NoneIsBad files task → (t : List ℕ) × (n : ℕ) × FileOutput files task t × Appends old new (take n t)
-  pub nothing : (role : FileRole) (fault : FileFault) → IsFirstBad files task role fault → Keeps old new
-
--- what was added to the output after this status, where the store tells its files
-abbrev pub OutputAfter : Status → Files → Task → Option (List ℕ) → Option (List ℕ) → Type 0
-OutputAfter Done files task old new = AddsOutput files task old new
-OutputAfter CheckedNo files task old new = ⊥
-OutputAfter Usage files task old new = ⊥
-OutputAfter BadInput files task old new = Keeps old new
-OutputAfter StoreFailed files task old new = Keeps old new
-OutputAfter SinkFailed files task old new = AddsFront files task old new
-OutputAfter NoMemory files task old new = AddsFrontOrNothing files task old new
+-- the store is the same as before, if nothing is to be loaded for the words
+abbrev pub KeepsStore : Option Task → Type 0 → Type 0
+KeepsStore None same = same
+KeepsStore (Some (Run run)) same = ⊤
 
 -- before this status the output is not touched
 abbrev pub IsBeforeOutput : Status → Type 0
@@ -54,25 +45,23 @@ IsQuiet CheckedNo = ⊤
 IsQuiet SinkFailed = ⊤
 IsQuiet _ = ⊥
 
--- the line names this file and why it is bad, a reason of its role; where the store tells its files, it is the first bad one
+-- The line names a file to which loading came, and why it is bad, a reason of its kind.
+-- Where the store tells its files, it is the first bad one, and that is why it is bad.
 pub record SaysBad (files : Option Files) (task : Task) (says : List ℕ → Type 0) : Type 0 where
-  pub role : FileRole
+  pub need : Need
   pub fault : FileFault
   pub text : fault ≢ Missing
-  pub form : IsOfRole role fault
-  pub line : says (fault_line (name_in task role) fault)
-  pub first : IfSome files (λ files. IsFirstBad files task role fault)
+  pub form : CanBe need.kind fault
+  pub line : says (fault_line need.name fault)
+  pub reached : ComesTo files task need
+  pub bad : IfSome files (λ files. IsFault files need fault)
 
--- the store failed at this file, or it tells its files and the file is not there; and no file before it is bad
-abbrev pub IsUnread : Option Files → Task → FileRole → Type 0 → Type 0
-IsUnread None task role rose = rose
-IsUnread (Some files) task role rose = IsReached files task role × (rose ⊎ (get files (name_in task role) ≡ None))
-
--- the line names a file that could not be read
+-- the line names a file to which loading came, and which could not be read: the store failed, or it tells its files and the file is not there
 pub record SaysUnread (files : Option Files) (task : Task) (rose : Type 0) (says : List ℕ → Type 0) : Type 0 where
-  pub role : FileRole
-  pub line : says (unread_line (name_in task role))
-  pub unread : IsUnread files task role rose
+  pub need : Need
+  pub line : says (unread_line need.name)
+  pub reached : ComesTo files task need
+  pub unread : rose ⊎ IsMissing files need.name
 
 -- what is said after this status; rose: the store's faults rose
 abbrev pub ErrorLineAfter : Status → Task → Option Files → Type 0 → (List ℕ → Type 0) → Type 0
@@ -88,20 +77,24 @@ LineAfter _ says = ⊤
 
 -- ---- the causes
 
--- the status of a run that is stopped by this
+-- the status of a task that is stopped by this
 abbrev pub status_of : FileFault → Status
 status_of Missing = StoreFailed
 status_of _ = BadInput
 
+-- the files decide the status, unless memory is wanting: it is this where no file is bad, and else that of the first bad one
+pub record IsDecided (files : Files) (task : Task) (status : Status) (good_status : Type 0) : Type 0 where
+  pub good : NoneIsBad files task → good_status ⊎ (status ≡ NoMemory)
+  pub bad : (need : Need) (fault : FileFault) → IsFirstBad files task need fault → (status ≡ status_of fault) ⊎ (status ≡ NoMemory)
+
 -- the status where no count of faults rose
-pub record IsStatusWithoutFaults (files : Files) (task : Task) (status : Status) : Type 0 where
-  pub good : NoneIsBad files task → (status ≡ Done) ⊎ (status ≡ NoMemory)
-  pub bad : (role : FileRole) (fault : FileFault) → IsFirstBad files task role fault → (status ≡ status_of fault) ⊎ (status ≡ NoMemory)
+abbrev pub IsStatusWithoutFaults : Task → Status → Option Files → Type 0
+IsStatusWithoutFaults (Run run) status files = IfSome files (λ files. IsDecided files (Run run) status (status ≡ Done))
 
 -- the store tells its files, and the first bad one is not there
 abbrev pub FirstBadIsMissing : Option Files → Task → Type 0
-FirstBadIsMissing files task = IsSomeAnd files (λ files. (role : FileRole) × IsFirstBad files task role Missing)
+FirstBadIsMissing files task = IsSomeAnd files (λ files. (need : Need) × IsFirstBad files task need Missing)
 
 -- where the store tells its files, the first bad one is there, and its text is bad
 abbrev pub FirstBadIsText : Option Files → Task → Type 0
-FirstBadIsText files task = IfSome files (λ files. (role : FileRole) × (fault : FileFault) × (fault ≢ Missing) × IsFirstBad files task role fault)
+FirstBadIsText files task = IfSome files (λ files. (need : Need) × (fault : FileFault) × (fault ≢ Missing) × IsFirstBad files task need fault)

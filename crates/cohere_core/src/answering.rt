@@ -3,7 +3,7 @@
 ghost use Rattle.std.specs.Prelude.{◌≤◌, OnOk, OnErr, IfErr, IsErrOf};
 ghost use Rattle.scheme_io.specs.Count.{Rose};
 ghost use Rattle.pair_colours.specs.Colouring.{IsRawColouring};
-ghost use Rattle.cohere_core.specs.Acts.{AreBuilt};
+ghost use Rattle.cohere_inputs.specs.Acts.{AreBuilt};
 ghost use Rattle.cohere_core.specs.Answer.{Answered, Stopped};
 ghost use Rattle.cohere_core.specs.Output.{AddsScript, AddsScriptFront};
 

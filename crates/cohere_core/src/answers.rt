@@ -3,7 +3,7 @@
 ghost use Rattle.std.specs.Prelude.{◌≡◌, ◌≢◌, ℕ, List, true, IfOk, IfErr, OnOk, OnErr, IsErrOf, Some, None, MatchOption};
 ghost use Rattle.recolour_bench.specs.History.{IsHistory};
 ghost use Rattle.recolour_bench.specs.Steps as steps;
-ghost use Rattle.cohere_core.specs.Acts.{is_built};
+ghost use Rattle.cohere_inputs.specs.Acts.{is_built};
 ghost use Rattle.cohere_core.specs.Answer.{Answers, IsAccepted, IsHalfway, MoveTakesMemory, Moves, TakesMemory, move_of};
 ghost use Rattle.cohere_core.specs.Move.{asked_move};
 

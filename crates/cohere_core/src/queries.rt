@@ -9,7 +9,7 @@ ghost use Rattle.report_text.specs.Constants.{constants_text_of};
 ghost use Rattle.report_text.specs.Tests.{tests_text_of};
 ghost use Rattle.scheme_tests.specs.declared.properties.SchemeTests.{SchemeTests};
 ghost use Rattle.scheme_tests.specs.Law.{AreAnswers};
-ghost use Rattle.cohere_core.specs.Acts.{is_built};
+ghost use Rattle.cohere_inputs.specs.Acts.{is_built};
 ghost use Rattle.cohere_core.specs.Answer.{AnswersArray, OfConfiguration, Tells, WritesGraph, move_of};
 
 use drg_arrays::{ArrayFault, array};

@@ -1,20 +1,16 @@
 //! The top call.
 
-ghost use Rattle.std.specs.Prelude.{◌≡◌, ◌≢◌, ◌≤◌, ◌⊎◌, ◌↔◌, IfSome, None};
+ghost use Rattle.std.specs.Prelude.{◌≡◌, ◌≢◌, ◌≤◌, ◌⊎◌, ◌↔◌, None};
 ghost use Rattle.scheme_io.specs.Count.{Rose};
-ghost use Rattle.cohere_core.specs.Form.{asked};
-ghost use Rattle.cohere_core.specs.Said.{AddsLine};
-ghost use Rattle.cohere_core.specs.Task.{texts, task_of, IfAsked, IsAsked};
-ghost use Rattle.cohere_core.specs.Bad.{name_in};
-ghost use Rattle.cohere_core.specs.Halt.{halt_status, halt_line};
-ghost use Rattle.cohere_core.specs.Run.{OutputAfter, IsQuiet, LineAfter, ErrorLineAfter, IsStatusWithoutFaults, FirstBadIsMissing, FirstBadIsText, IsBeforeOutput};
+ghost use Rattle.cohere_inputs.specs.Asked.{asked};
+ghost use Rattle.cohere_inputs.specs.Said.{AddsLine};
+ghost use Rattle.cohere_inputs.specs.Task.{IsAsked};
+ghost use Rattle.cohere_inputs.specs.Words.{texts, task_of, IfAsked};
+ghost use Rattle.cohere_core.specs.Run.{MayAnswer, OutputAfter, KeepsStore, IsQuiet, LineAfter, ErrorLineAfter, IsStatusWithoutFaults, FirstBadIsMissing, FirstBadIsText, IsBeforeOutput};
 
 use crate::Status;
-use crate::answering::{SessionFault, answer_script};
-use crate::bad_files::FileFault;
-use crate::inputs::{Halt, Unread, inputs_in, name_of};
-use crate::saying::{say_fault, say_no_memory, say_unread, say_usage};
-use crate::task::{Form, form_of};
+use crate::run_form::answer_run;
+use cohere_inputs::{Task, say_usage, task_of};
 use scheme_io::{Sink, Store};
 use std::alloc::Global;
 
@@ -29,9 +25,8 @@ pub fn run<S: Store, O: Sink, E: Sink>(
     out: &mut O,
     err: &mut E,
 ) -> Status
-    // The headline: what was added to the output, where the store tells its files.
-    ensures output { IfAsked words.now (λ task. IfSome (S.files store.old) (λ files.
-        OutputAfter result files task (O.written out.old) (O.written out.new))) }
+    // The headline: what was added to the output.
+    ensures output { IfAsked words.now (λ task. OutputAfter task result (S.files store.old) (O.written out.old) (O.written out.new)) }
 
     // What was added to the errors.
     ensures quiet { IsQuiet result → err.new ≡ err.old }
@@ -39,27 +34,26 @@ pub fn run<S: Store, O: Sink, E: Sink>(
     ensures error_line { IfAsked words.now (λ task.
         ErrorLineAfter result task (S.files store.old) (Rose (S.faults store.old) (S.faults store.new)) (AddsLine E.written E.faults err.old err.new)) }
 
-    // Usage comes exactly where the words fit no form, and then nothing else is touched.
+    // Usage comes exactly where the words fit no form. No file is loaded for such words.
     ensures usage { (result ≡ Status.Usage) ↔ (task_of (texts words.now) ≡ None) }
-    ensures same_store { result ≡ Status.Usage → store.new ≡ store.old }
+    ensures same_store { KeepsStore (task_of (texts words.now)) (store.new ≡ store.old) }
     ensures same_out { IsBeforeOutput result → out.new ≡ out.old }
 
     // The other answers and their causes.
+    ensures may_answer { IfAsked words.now (λ task. MayAnswer task result) }
     ensures bad_input { IfAsked words.now (λ task. result ≡ Status.BadInput → FirstBadIsText (S.files store.old) task) }
     ensures store_failed { IfAsked words.now (λ task. result ≡ Status.StoreFailed
         → Rose (S.faults store.old) (S.faults store.new) ⊎ FirstBadIsMissing (S.files store.old) task) }
     ensures sink_failed { result ≡ Status.SinkFailed → Rose (O.faults out.old) (O.faults out.new) }
-    ensures no_check { result ≢ Status.CheckedNo }
 
     // Completeness: the status where no count of faults rose.
-    ensures complete { IfAsked words.now (λ task. IfSome (S.files store.old) (λ files.
-        ¬ Rose (S.faults store.old) (S.faults store.new) → ¬ Rose (O.faults out.old) (O.faults out.new)
-        → IsStatusWithoutFaults files task result)) }
+    ensures complete { ¬ Rose (S.faults store.old) (S.faults store.new) → ¬ Rose (O.faults out.old) (O.faults out.new)
+        → IfAsked words.now (λ task. IsStatusWithoutFaults task result (S.files store.old)) }
 
     ensures same_files { S.files store.new ≡ S.files store.old }
 {
-    match form_of(words) {
-        Some(form) => run_form(alloc, form, store, out, err),
+    match task_of(words) {
+        Some(task) => carry_out(alloc, task, store, out, err),
         None => {
             say_usage(err);
             Status::Usage
@@ -67,67 +61,32 @@ pub fn run<S: Store, O: Sink, E: Sink>(
     }
 }
 
-// The same for a form of words.
-fn run_form<S: Store, O: Sink, E: Sink>(
+// The same for a task: each form of words has its own function.
+fn carry_out<S: Store, O: Sink, E: Sink>(
     alloc: Global,
-    form: Form<'_>,
+    task: Task<'_>,
     store: &mut S,
     out: &mut O,
     err: &mut E,
 ) -> Status
-    requires { IsAsked (asked form) }
-    ensures output { IfSome (S.files store.old) (λ files. OutputAfter result files (asked form.entry) (O.written out.old) (O.written out.new)) }
+    requires { IsAsked (asked task) }
+    ensures output { OutputAfter (asked task.entry) result (S.files store.old) (O.written out.old) (O.written out.new) }
     ensures quiet { IsQuiet result → err.new ≡ err.old }
     ensures line { LineAfter result (AddsLine E.written E.faults err.old err.new) }
-    ensures error_line { ErrorLineAfter result (asked form.entry) (S.files store.old)
+    ensures error_line { ErrorLineAfter result (asked task.entry) (S.files store.old)
         (Rose (S.faults store.old) (S.faults store.new)) (AddsLine E.written E.faults err.old err.new) }
     ensures no_usage { result ≢ Status.Usage }
+    ensures may_answer { MayAnswer (asked task.entry) result }
     ensures same_out { IsBeforeOutput result → out.new ≡ out.old }
-    ensures bad_input { result ≡ Status.BadInput → FirstBadIsText (S.files store.old) (asked form.entry) }
+    ensures bad_input { result ≡ Status.BadInput → FirstBadIsText (S.files store.old) (asked task.entry) }
     ensures store_failed { result ≡ Status.StoreFailed
-        → Rose (S.faults store.old) (S.faults store.new) ⊎ FirstBadIsMissing (S.files store.old) (asked form.entry) }
+        → Rose (S.faults store.old) (S.faults store.new) ⊎ FirstBadIsMissing (S.files store.old) (asked task.entry) }
     ensures sink_failed { result ≡ Status.SinkFailed → Rose (O.faults out.old) (O.faults out.new) }
-    ensures no_check { result ≢ Status.CheckedNo }
-    ensures complete { IfSome (S.files store.old) (λ files.
-        ¬ Rose (S.faults store.old) (S.faults store.new) → ¬ Rose (O.faults out.old) (O.faults out.new)
-        → IsStatusWithoutFaults files (asked form.entry) result) }
+    ensures complete { ¬ Rose (S.faults store.old) (S.faults store.new) → ¬ Rose (O.faults out.old) (O.faults out.new)
+        → IsStatusWithoutFaults (asked task.entry) result (S.files store.old) }
     ensures same_files { S.files store.new ≡ S.files store.old }
 {
-    let inputs = match inputs_in(alloc, store, form) {
-        Ok(inputs) => inputs,
-        Err(halt) => return report(err, form, halt),
-    };
-    match answer_script(alloc, inputs.relation, &inputs.lines, out) {
-        Ok(()) => Status::Done,
-        Err(SessionFault::SinkFailed) => Status::SinkFailed,
-        Err(SessionFault::NoMemory) => {
-            say_no_memory(err);
-            Status::NoMemory
-        }
-    }
-}
-
-// Says why a run stops before it writes, and gives its status.
-fn report<E: Sink>(err: &mut E, form: Form<'_>, halt: Halt) -> Status
-    ensures status { result ≡ halt_status halt.why }
-    ensures line { AddsLine E.written E.faults err.old err.new (halt_line (name_in (asked form.entry) halt.role) halt.why) }
-{
-    let name = name_of(form, halt.role);
-    match halt.why {
-        Unread::Bad(fault) => {
-            say_fault(err, name, fault);
-            match fault {
-                FileFault::Missing => Status::StoreFailed,
-                _ => Status::BadInput,
-            }
-        }
-        Unread::StoreFailed => {
-            say_unread(err, name);
-            Status::StoreFailed
-        }
-        Unread::NoMemory => {
-            say_no_memory(err);
-            Status::NoMemory
-        }
+    match task {
+        Task::Run(words) => answer_run(alloc, words, store, out, err),
     }
 }

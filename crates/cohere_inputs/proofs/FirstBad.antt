@@ -1,0 +1,195 @@
+-- Of the files of a task none is bad, or one is the first bad one.
+use Rattle.std.proofs.Common.{◌≡◌, ◌<◌, ◌≤◌, ◌⊎◌, ℕ, List, [], ◌∷◌, length, Option, Some, None, refl, sym, ap, subst, ◌∙◌, arith, inl, inr, ⊎_elim}
+use Rattle.std.specs.Prelude.{MatchOption, IsSome, ⊤}
+use Rattle.std.specs.List.{AllByRecursion}
+use Rattle.std.specs.FinMap.{get}
+use Rattle.std.proofs.lemmas.Bool.{cases_lt}
+use Rattle.std.proofs.lemmas.Option.{none-some, same_Some, some_pair_parts}
+use Rattle.scheme_io.specs.Files.{Files}
+use Rattle.pair_colours.specs.Colouring.{PairColouring}
+use Rattle.relation_text.specs.Relation.{IsRelationText}
+use Rattle.relation_text.specs.Faults.{relation_fault}
+use Rattle.relation_text.specs.declared.faults.RelationWord.{RelationWord}
+use Rattle.relation_text.proofs.Readings.{no_fault-read, reads_or_fails}
+use Rattle.script_text.specs.Script.{IsScript}
+use Rattle.script_text.specs.LineFaults.{script_fault}
+use Rattle.script_text.specs.declared.acts.Line.{Line}
+use Rattle.script_text.specs.declared.faults.ScriptWord.{ScriptWord}
+use Rattle.script_text.proofs.ScriptLaw.{script_has_no_fault, script_is_unique, script_or_fault}
+use Rattle.cohere_inputs.specs.declared.faults.FileFault.{FileFault}
+use Rattle.cohere_inputs.specs.declared.faults.FileFault.TheVariants.{Missing, TooLong, Relation, Script, NotYet}
+use Rattle.cohere_inputs.specs.Task.{Task, Run, IsAsked}
+use Rattle.cohere_inputs.specs.Acts.{AreBuilt, first_unbuilt}
+use Rattle.cohere_inputs.specs.Kind.{Kind, limit_of}
+use Rattle.cohere_inputs.specs.Kind as kinds
+use Rattle.cohere_inputs.specs.Needs.{Need, named_files}
+use Rattle.cohere_inputs.specs.Texts.{IsText, IsTextFault, IsBuiltScript}
+use Rattle.cohere_inputs.specs.Bad.{HoldsWithin, IsGood, IsTooLong, IsFault, IsReachedIn, IsReached, IsFirstBad, NoneIsBad}
+use Rattle.cohere_inputs.specs.Law.{NoneOrFirstBad, NoneIsFirst, FirstBadIsUnique}
+use Rattle.cohere_inputs.proofs.BuiltActs.{built_from_none, none_from_built}
+
+-- ---- one text
+
+-- a text that is what it must be has no fault
+text_has_no_fault : (kind : Kind) (bytes : List ℕ) (fault : FileFault) → IsText kind bytes → IsTextFault kind bytes fault → ⊥
+text_has_no_fault (kinds.Relation line) bytes (Relation what at) good bad = none-some (what, at) (sym (no_fault-read bytes line good.0 good.1) ∙ bad)
+text_has_no_fault kinds.Script bytes (Script line what) good bad = none-some (line, what) (sym (script_has_no_fault bytes good.0 good.1.reads) ∙ bad)
+text_has_no_fault kinds.Script bytes (NotYet line) good bad =
+    let same = script_is_unique bytes good.0 bad.lines good.1.reads bad.reads in
+    none-some line (sym (none_from_built good.0 good.1.built) ∙ ap first_unbuilt same ∙ bad.first)
+text_has_no_fault _ bytes _ good bad = absurd bad
+
+-- and no text has two
+text_fault_is_unique : (kind : Kind) (bytes : List ℕ) (fault another : FileFault) → IsTextFault kind bytes fault → IsTextFault kind bytes another → fault ≡ another
+text_fault_is_unique (kinds.Relation line) bytes (Relation what at) (Relation word place) a b =
+    let parts = some_pair_parts what word at place (sym a ∙ b) in
+    ap (λ w. Relation w at) parts.0 ∙ ap (Relation word) parts.1
+text_fault_is_unique (kinds.Relation line) bytes (Relation what at) _ a b = absurd b
+text_fault_is_unique kinds.Script bytes (Script line what) (Script number word) a b =
+    let parts = some_pair_parts line number what word (sym a ∙ b) in
+    ap (λ n. Script n what) parts.0 ∙ ap (Script number) parts.1
+text_fault_is_unique kinds.Script bytes (Script line what) (NotYet number) a b = absurd (none-some (line, what) (sym (script_has_no_fault bytes b.lines b.reads) ∙ a))
+text_fault_is_unique kinds.Script bytes (Script line what) _ a b = absurd b
+text_fault_is_unique kinds.Script bytes (NotYet line) (Script number word) a b = absurd (none-some (number, word) (sym (script_has_no_fault bytes a.lines a.reads) ∙ b))
+text_fault_is_unique kinds.Script bytes (NotYet line) (NotYet number) a b =
+    ap NotYet (same_Some line number (sym a.first ∙ ap first_unbuilt (script_is_unique bytes a.lines b.lines a.reads b.reads) ∙ b.first))
+text_fault_is_unique kinds.Script bytes (NotYet line) _ a b = absurd b
+text_fault_is_unique _ bytes _ _ a b = absurd a
+
+-- a text is what it must be, or has a fault
+relation_or_fault : (bytes : List ℕ) (line : ℕ) (o : Option (RelationWord × ℕ)) → relation_fault bytes line ≡ o
+    → MatchOption o ((C : PairColouring) × IsRelationText bytes line C) (λ _. (C : PairColouring) → ¬ IsRelationText bytes line C)
+    → IsText (kinds.Relation line) bytes ⊎ ((fault : FileFault) × IsTextFault (kinds.Relation line) bytes fault)
+relation_or_fault bytes line None e read = inl read
+relation_or_fault bytes line (Some (what, at)) e read = inr (Relation what at, e)
+
+built_or_not : (bytes : List ℕ) (lines : List Line) → IsScript bytes lines → (o : Option ℕ) → first_unbuilt lines ≡ o
+    → IsText kinds.Script bytes ⊎ ((fault : FileFault) × IsTextFault kinds.Script bytes fault)
+built_or_not bytes lines reads None e = inl (lines, record { reads = reads; built = built_from_none lines e })
+built_or_not bytes lines reads (Some line) e = inr (NotYet line, record { lines = lines; reads = reads; first = e })
+
+script_fault_of : (bytes : List ℕ) (o : Option (ℕ × ScriptWord)) → script_fault bytes ≡ o → IsSome o → (fault : FileFault) × IsTextFault kinds.Script bytes fault
+script_fault_of bytes None e some = absurd cc
+script_fault_of bytes (Some (line, what)) e some = (Script line what, e)
+
+-- a line of a relation counts from 1
+abbrev IsCounted : Kind → Type 0
+IsCounted (kinds.Relation line) = 1 ≤ line
+IsCounted kinds.Script = ⊤
+
+text_or_fault : (kind : Kind) (bytes : List ℕ) → IsCounted kind → IsText kind bytes ⊎ ((fault : FileFault) × IsTextFault kind bytes fault)
+text_or_fault (kinds.Relation line) bytes counted = relation_or_fault bytes line (relation_fault bytes line) refl (reads_or_fails bytes line counted)
+text_or_fault kinds.Script bytes counted =
+    ⊎_elim (λ (read : (lines : List Line) × IsScript bytes lines). built_or_not bytes read.0 read.1 (first_unbuilt read.0) refl)
+    (λ some. inr (script_fault_of bytes (script_fault bytes) refl some)) (script_or_fault bytes)
+
+-- ---- one file
+
+-- a file holds one text
+one_text : (files : Files) (name a b : List ℕ) → get files name ≡ Some a → get files name ≡ Some b → a ≡ b
+one_text files name a b e f = same_Some a b (sym e ∙ f)
+
+-- no text is missing or too long
+no_text_missing : (kind : Kind) (bytes : List ℕ) → IsTextFault kind bytes Missing → ⊥
+no_text_missing (kinds.Relation line) bytes bad = bad
+no_text_missing kinds.Script bytes bad = bad
+
+no_text_too_long : (kind : Kind) (bytes : List ℕ) → IsTextFault kind bytes TooLong → ⊥
+no_text_too_long (kinds.Relation line) bytes bad = bad
+no_text_too_long kinds.Script bytes bad = bad
+
+-- a fault of a text is that of its file
+text_fault-file : (files : Files) (need : Need) (bytes : List ℕ) (fault : FileFault) → HoldsWithin files need bytes → IsTextFault need.kind bytes fault → IsFault files need fault
+text_fault-file files need bytes Missing file bad = absurd (no_text_missing need.kind bytes bad)
+text_fault-file files need bytes TooLong file bad = absurd (no_text_too_long need.kind bytes bad)
+text_fault-file files need bytes _ file bad = (bytes, file, bad)
+
+good_is_not_bad : (files : Files) (need : Need) (fault : FileFault) → IsGood files need → IsFault files need fault → ⊥
+good_is_not_bad files need Missing good bad = none-some good.bytes (sym bad ∙ good.file.holds)
+good_is_not_bad files need TooLong good bad = omega (arith, good.file.short, bad.2, ap length (one_text files need.name bad.0 good.bytes bad.1 good.file.holds))
+good_is_not_bad files need fault good bad =
+    let same = one_text files need.name bad.0 good.bytes bad.1.holds good.file.holds in
+    text_has_no_fault need.kind good.bytes fault good.text (subst (λ (b : List ℕ). IsTextFault need.kind b fault) same bad.2)
+
+-- a file that is within its limit is not too long
+not_too_long : (files : Files) (need : Need) (bytes : List ℕ) → HoldsWithin files need bytes → IsTooLong files need → ⊥
+not_too_long files need bytes file long = omega (arith, file.short, long.2, ap length (one_text files need.name long.0 bytes long.1 file.holds))
+
+file_fault_is_unique : (files : Files) (need : Need) (fault another : FileFault) → IsFault files need fault → IsFault files need another → fault ≡ another
+file_fault_is_unique files need Missing Missing a b = refl
+file_fault_is_unique files need Missing TooLong a b = absurd (none-some b.0 (sym a ∙ b.1))
+file_fault_is_unique files need Missing another a b = absurd (none-some b.0 (sym a ∙ b.1.holds))
+file_fault_is_unique files need TooLong TooLong a b = refl
+file_fault_is_unique files need TooLong Missing a b = absurd (none-some a.0 (sym b ∙ a.1))
+file_fault_is_unique files need TooLong another a b = absurd (not_too_long files need b.0 b.1 a)
+file_fault_is_unique files need fault Missing a b = absurd (none-some a.0 (sym b ∙ a.1.holds))
+file_fault_is_unique files need fault TooLong a b = absurd (not_too_long files need a.0 a.1 b)
+file_fault_is_unique files need fault another a b =
+    let same = one_text files need.name b.0 a.0 b.1.holds a.1.holds in
+    text_fault_is_unique need.kind a.0 fault another a.2 (subst (λ (t : List ℕ). IsTextFault need.kind t another) same b.2)
+
+-- a file is good, or has a fault
+good_or_fault : (files : Files) (need : Need) → IsCounted need.kind → IsGood files need ⊎ ((fault : FileFault) × IsFault files need fault)
+good_or_fault files need counted = from (get files need.name) refl
+  where
+    within : (bytes : List ℕ) → HoldsWithin files need bytes → IsGood files need ⊎ ((fault : FileFault) × IsFault files need fault)
+    within bytes file =
+        ⊎_elim (λ text. inl (record { bytes = bytes; file = file; text = text }))
+        (λ (bad : (fault : FileFault) × IsTextFault need.kind bytes fault). inr (bad.0, text_fault-file files need bytes bad.0 file bad.1)) (text_or_fault need.kind bytes counted)
+
+    from : (o : Option (List ℕ)) → get files need.name ≡ o → IsGood files need ⊎ ((fault : FileFault) × IsFault files need fault)
+    from None e = inr (Missing, e)
+    from (Some bytes) e = elim (cases_lt (limit_of need.kind) (length bytes)) [
+      | inl long ↦ inr (TooLong, (bytes, e, long))
+      | inr short ↦ within bytes (record { holds = e; short = short })
+    ]
+
+-- ---- a list of files
+
+-- a file of the list that is bad, and none before it
+abbrev HasFirstBad : Files → List Need → Type 0
+HasFirstBad files needs = (need : Need) × (fault : FileFault) × IsReachedIn files needs need × IsFault files need fault
+
+none_or_first_in : (files : Files) (needs : List Need) → AllByRecursion (λ need. IsCounted need.kind) needs → AllByRecursion (IsGood files) needs ⊎ HasFirstBad files needs
+none_or_first_in files [] counted = inl tt
+none_or_first_in files (first ∷ rest) counted = from (none_or_first_in files rest counted.1) (good_or_fault files first counted.0)
+  where
+    from : AllByRecursion (IsGood files) rest ⊎ HasFirstBad files rest → IsGood files first ⊎ ((fault : FileFault) × IsFault files first fault)
+        → AllByRecursion (IsGood files) (first ∷ rest) ⊎ HasFirstBad files (first ∷ rest)
+    from others (inr bad) = inr (first, bad.0, inl refl, bad.1)
+    from (inl others) (inl good) = inl (good, others)
+    from (inr bad) (inl good) = inr (bad.0, bad.1, inr (good, bad.2), bad.3)
+
+none_is_first_in : (files : Files) (needs : List Need) (need : Need) (fault : FileFault) → AllByRecursion (IsGood files) needs → IsReachedIn files needs need → IsFault files need fault → ⊥
+none_is_first_in files [] need fault good reached bad = reached
+none_is_first_in files (first ∷ rest) need fault good (inl same) bad = good_is_not_bad files first fault good.0 (subst (λ n. IsFault files n fault) same bad)
+none_is_first_in files (first ∷ rest) need fault good (inr later) bad = none_is_first_in files rest need fault good.1 later.1 bad
+
+same_first_in : (files : Files) (needs : List Need) (need other : Need) (fault another : FileFault) → IsReachedIn files needs need → IsFault files need fault
+    → IsReachedIn files needs other → IsFault files other another → (need ≡ other) × (fault ≡ another)
+same_first_in files [] need other fault another a bad b worse = absurd a
+same_first_in files (first ∷ rest) need other fault another (inl a) bad (inl b) worse =
+    let same = a ∙ sym b in
+    (same, file_fault_is_unique files other fault another (subst (λ n. IsFault files n fault) same bad) worse)
+same_first_in files (first ∷ rest) need other fault another (inl a) bad (inr b) worse = absurd (good_is_not_bad files first fault b.0 (subst (λ n. IsFault files n fault) a bad))
+same_first_in files (first ∷ rest) need other fault another (inr a) bad (inl b) worse = absurd (good_is_not_bad files first another a.0 (subst (λ n. IsFault files n another) b worse))
+same_first_in files (first ∷ rest) need other fault another (inr a) bad (inr b) worse = same_first_in files rest need other fault another a.1 bad b.1 worse
+
+-- ---- a task
+
+pub none_or_first_bad : NoneOrFirstBad
+none_or_first_bad files (Run run) asked =
+    let task = Run run in
+    ⊎_elim (λ good. inl (record { needs = named_files task; loaded = refl; good = good }))
+    (λ (bad : HasFirstBad files (named_files task)). inr (bad.0, bad.1, (record { needs = named_files task; loaded = refl; reached = bad.2 }, bad.3)))
+    (none_or_first_in files (named_files task) (asked, (tt, tt)))
+
+pub none_is_first : NoneIsFirst
+none_is_first files task need fault good bad =
+    let same = good.loaded ∙ sym bad.0.loaded in
+    none_is_first_in files bad.0.needs need fault (subst (λ (needs : List Need). AllByRecursion (IsGood files) needs) same good.good) bad.0.reached bad.1
+
+pub first_bad_is_unique : FirstBadIsUnique
+first_bad_is_unique files task need other fault another a b =
+    let same = b.0.loaded ∙ sym a.0.loaded in
+    same_first_in files a.0.needs need other fault another a.0.reached a.1 (subst (λ (needs : List Need). IsReachedIn files needs other) same b.0.reached) b.1

@@ -1,0 +1,6 @@
+pub mod Pieces
+mod BuiltActs
+mod ReadFiles
+mod RunFiles
+mod FirstBad
+pub mod LawProofs

@@ -1,0 +1,16 @@
+-- What a file that is loaded must hold.
+use Rattle.std.specs.Prelude.{ℕ}
+use Rattle.relation_text.specs.declared.reading.TheConstants.{MOST_RELATION}
+use Rattle.script_text.specs.declared.limits.TheConstants.{MOST_SCRIPT}
+
+-- each kind of text has its case
+pub data Kind : Type 0 where
+  -- a relation that begins on this line
+  Relation : ℕ → Kind
+  -- a script of acts that are answered
+  Script : Kind
+
+-- the most bytes of such a file
+abbrev pub limit_of : Kind → ℕ
+limit_of (Relation line) = MOST_RELATION
+limit_of Script = MOST_SCRIPT

@@ -1,0 +1,25 @@
+-- What holds of the files of every task: none is bad, or there is exactly one first bad one, with one fault. And how large a line may be.
+use Rattle.std.specs.Prelude.{◌≡◌, ◌⊎◌}
+use Rattle.scheme_io.specs.Files.{Files}
+use Rattle.cohere_inputs.specs.declared.faults.FileFault.{FileFault}
+use Rattle.cohere_inputs.specs.declared.words.TheConstants.{MOST_LINE}
+use Rattle.cohere_inputs.specs.Task.{Task, IsAsked}
+use Rattle.cohere_inputs.specs.Needs.{Need}
+use Rattle.cohere_inputs.specs.Bad.{IsFirstBad, NoneIsBad}
+
+-- no file is bad, or there is a first bad one
+abbrev pub NoneOrFirstBad : Type 0
+NoneOrFirstBad = (files : Files) (task : Task) → IsAsked task → NoneIsBad files task ⊎ ((need : Need) × (fault : FileFault) × IsFirstBad files task need fault)
+
+-- and not both
+abbrev pub NoneIsFirst : Type 0
+NoneIsFirst = (files : Files) (task : Task) (need : Need) (fault : FileFault) → NoneIsBad files task → ¬ IsFirstBad files task need fault
+
+-- and two first bad files are one, with one fault
+abbrev pub FirstBadIsUnique : Type 0
+FirstBadIsUnique = (files : Files) (task : Task) (need other : Need) (fault another : FileFault)
+    → IsFirstBad files task need fault → IsFirstBad files task other another → (need ≡ other) × (fault ≡ another)
+
+-- the numbers of this crate's limits
+pub record AreLimits : Type 0 where
+  pub line : MOST_LINE ≡ 1000000

@@ -1,0 +1,14 @@
+pub mod Task
+pub mod RunForm
+pub mod Words
+pub mod Asked
+pub mod Acts
+pub mod Kind
+pub mod Needs
+pub mod Texts
+pub mod Bad
+pub mod Unread
+pub mod FaultWords
+pub mod Lines
+pub mod Said
+pub mod Law

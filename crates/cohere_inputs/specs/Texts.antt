@@ -1,0 +1,45 @@
+-- What the bytes of a file must be, and why they are not.
+use Rattle.std.specs.Prelude.{◌≡◌, ℕ, List, Some, ⊤}
+use Rattle.pair_colours.specs.Colouring.{PairColouring}
+use Rattle.relation_text.specs.Relation.{IsRelationText}
+use Rattle.relation_text.specs.Faults.{relation_fault}
+use Rattle.script_text.specs.Script.{IsScript}
+use Rattle.script_text.specs.LineFaults.{script_fault}
+use Rattle.script_text.specs.declared.acts.Line.{Line}
+use Rattle.cohere_inputs.specs.declared.faults.FileFault.{FileFault}
+use Rattle.cohere_inputs.specs.declared.faults.FileFault.TheVariants.{Missing, TooLong, Relation, Script, NotYet}
+use Rattle.cohere_inputs.specs.Acts.{AreBuilt, first_unbuilt}
+use Rattle.cohere_inputs.specs.Kind.{Kind}
+use Rattle.cohere_inputs.specs.Kind as kinds
+
+-- the text is this script, and every act of it is one that is answered
+pub record IsBuiltScript (text : List ℕ) (lines : List Line) : Type 0 where
+  pub reads : IsScript text lines
+  pub built : AreBuilt lines
+
+-- the bytes are what a file of this kind must hold
+abbrev pub IsText : Kind → List ℕ → Type 0
+IsText (kinds.Relation line) bytes = (C : PairColouring) × IsRelationText bytes line C
+IsText kinds.Script bytes = (lines : List Line) × IsBuiltScript bytes lines
+
+-- the text is a script, and the act of this line is the first that is not answered yet
+pub record IsUnbuiltScript (text : List ℕ) (line : ℕ) : Type 0 where
+  pub lines : List Line
+  pub reads : IsScript text lines
+  pub first : first_unbuilt lines ≡ Some line
+
+-- the bytes are not what a file of this kind must hold, for this reason
+abbrev pub IsTextFault : Kind → List ℕ → FileFault → Type 0
+IsTextFault (kinds.Relation line) bytes (Relation what at) = relation_fault bytes line ≡ Some (what, at)
+IsTextFault kinds.Script bytes (Script line what) = script_fault bytes ≡ Some (line, what)
+IsTextFault kinds.Script bytes (NotYet line) = IsUnbuiltScript bytes line
+IsTextFault _ _ _ = ⊥
+
+-- a file of this kind can be bad for such a reason
+abbrev pub CanBe : Kind → FileFault → Type 0
+CanBe _ Missing = ⊤
+CanBe _ TooLong = ⊤
+CanBe (kinds.Relation line) (Relation what at) = ⊤
+CanBe kinds.Script (Script line what) = ⊤
+CanBe kinds.Script (NotYet line) = ⊤
+CanBe _ _ = ⊥

@@ -1,0 +1,92 @@
+//! A file that holds a relation or a script.
+
+ghost use Rattle.std.specs.Prelude.{◌≡◌, ◌≤◌, IfOk, IfErr, IfSome};
+ghost use Rattle.scheme_io.specs.Count.{Rose};
+ghost use Rattle.pair_colours.specs.Colouring.{IsRawColouring};
+ghost use Rattle.cohere_inputs.specs.Acts.{is_built, AreBuilt, first_unbuilt};
+ghost use Rattle.cohere_inputs.specs.Bad.{IsRelationFile, IsScriptFile};
+ghost use Rattle.cohere_inputs.specs.Kind as kinds;
+ghost use Rattle.cohere_inputs.specs.Needs.{relation_need, script_need};
+ghost use Rattle.cohere_inputs.specs.Unread.{IsCause, IsUnreadAs};
+
+use crate::faults::{FileFault, Unread};
+use pair_colours::Colouring;
+use relation_text::{MOST_RELATION, read_relation};
+use scheme_io::{Store, load};
+use script_text::{Act, Line, MOST_SCRIPT, read_script};
+use std::alloc::Global;
+
+/// Loads the file of a relation, and reads it at a line.
+pub(crate) fn relation_in<S: Store>(
+    alloc: Global,
+    store: &mut S,
+    name: &str,
+    line: u32,
+) -> Result<Colouring, Unread>
+    requires { 1 ≤ line }
+    ensures same_files { S.files store.new ≡ S.files store.old }
+    ensures later { S.faults store.old ≤ S.faults store.new }
+    ensures raw { IfOk result IsRawColouring }
+    ensures read { IfOk result (λ C. IfSome (S.files store.old) (λ files. IsRelationFile files name.now line C)) }
+    ensures cause { IfErr result (λ why.
+        IsCause (S.files store.old) (relation_need name.now line) why (Rose (S.faults store.old) (S.faults store.new))) }
+    ensures form { IfErr result (IsUnreadAs (kinds.Relation line)) }
+{
+    let bytes = load(alloc, store, name, MOST_RELATION)?;
+    Ok(read_relation(alloc, &bytes, line)?)
+}
+
+// Whether the act is one that is answered.
+fn has_answer(act: &Act) -> bool
+    ensures { result ≡ is_built act.now }
+{
+    matches!(
+        act,
+        Act::Set { .. }
+            | Act::Both { .. }
+            | Act::Fix { .. }
+            | Act::Join { .. }
+            | Act::Adopt
+            | Act::Undo
+            | Act::Redo
+            | Act::Show
+            | Act::Raw
+            | Act::Classes
+            | Act::Constants
+            | Act::Tests
+            | Act::Array { .. }
+            | Act::Write { .. }
+    )
+}
+
+// The number of the first line whose act is not answered yet.
+fn unbuilt_line(lines: &[Line]) -> Option<u32>
+    ensures { result ≡ first_unbuilt lines.now }
+{
+    lines
+        .iter()
+        .find(|line| !has_answer(&line.act))
+        .map(|line| line.number)
+}
+
+/// Loads the file of a script, and reads it.
+pub(crate) fn script_in<S: Store>(
+    alloc: Global,
+    store: &mut S,
+    name: &str,
+) -> Result<Vec<Line>, Unread>
+    ensures same_files { S.files store.new ≡ S.files store.old }
+    ensures later { S.faults store.old ≤ S.faults store.new }
+    ensures built { IfOk result (λ lines. AreBuilt lines.items) }
+    ensures read { IfOk result (λ lines. IfSome (S.files store.old) (λ files. IsScriptFile files name.now lines.items)) }
+    ensures cause { IfErr result (λ why.
+        IsCause (S.files store.old) (script_need name.now) why (Rose (S.faults store.old) (S.faults store.new))) }
+    ensures form { IfErr result (IsUnreadAs kinds.Script) }
+{
+    let bytes = load(alloc, store, name, MOST_SCRIPT)?;
+    let lines = read_script(alloc, &bytes)?;
+    match unbuilt_line(&lines) {
+        Some(line) => Err(Unread::Bad(FileFault::NotYet { line })),
+        None => Ok(lines),
+    }
+}

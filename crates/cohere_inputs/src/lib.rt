@@ -1,0 +1,25 @@
+//! What the program is asked for, and what it reads before it answers: the words, the files that
+//! are loaded for them, and the lines on standard error.
+//!
+//! * `words`: what the words ask for; `run_form`: the words of the form `run`, and its files.
+//! * `files`: a file that holds a relation or a script, and `faults`: why it is not read.
+//! * `saying`: the lines on standard error, with the words of faults in `fault_words`.
+//! * `laws`: of the files of a task none is bad, or one is the first bad one.
+//!
+//! The definitions stand in `specs/`: `Task` and `Words` say what the words ask for, `Needs` which
+//! files are loaded, `Texts` and `Bad` which of them are bad, `Unread` where loading stops, and
+//! `Lines` what is said.
+#![tactic(auto)]
+
+mod fault_words;
+mod faults;
+mod files;
+pub mod laws;
+mod run_form;
+mod saying;
+mod words;
+
+pub use faults::{FileFault, Halt, Unread};
+pub use run_form::{RunInputs, RunWords, run_inputs};
+pub use saying::{say_halt, say_no_memory, say_usage};
+pub use words::{MOST_LINE, Task, task_of};

@@ -1,0 +1,30 @@
+//! What the words of the program ask for.
+
+ghost use Rattle.std.specs.Prelude.{◌≡◌, Some, None, MatchOption, IfSome};
+ghost use Rattle.cohere_inputs.specs.Asked.{asked};
+ghost use Rattle.cohere_inputs.specs.Task.{IsAsked};
+ghost use Rattle.cohere_inputs.specs.Words.{texts, task_of};
+
+use crate::run_form::{RunWords, run_words};
+
+/// The greatest line of a relation's file that can be asked for.
+pub const MOST_LINE: u32 = 1_000_000;
+
+/// What the words ask for: one variant for each form.
+#[derive(Clone, Copy, Debug)]
+pub enum Task<'a> {
+    /// Answers a script over a relation.
+    Run(RunWords<'a>),
+}
+
+/// What the words ask for, where they fit a form.
+pub fn task_of(words: &[String]) -> Option<Task<'_>>
+    ensures task { MatchOption result (task_of (texts words.now) ≡ None) (λ task. task_of (texts words.now) ≡ Some (asked task)) }
+    ensures within { IfSome result (λ task. IsAsked (asked task)) }
+{
+    let (word, words) = words.split_first()?;
+    match word.as_str() {
+        "run" => run_words(words).map(Task::Run),
+        _ => None,
+    }
+}

@@ -1,4 +1,3 @@
-mod RawClosures
 mod Runs
 mod OneOutput
 mod Halted

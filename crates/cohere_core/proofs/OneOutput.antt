@@ -4,7 +4,7 @@ use Rattle.std.specs.Prelude.{◌≢◌, ◌↔◌, IsTrue, MatchOption}
 use Rattle.pair_colours.specs.Colouring.{PairColouring}
 use Rattle.pair_colours.specs.Closure.{IsClosureOf}
 use Rattle.pair_colours.specs.Naming.{rank_of}
-use Rattle.pair_colours.proofs.Closures.{named_closure_is_unique}
+use Rattle.pair_colours.proofs.LawProofs.{named_closure_is_unique}
 use Rattle.recolour_bench.specs.History.{History, IsHistory, AreAlike, present}
 use Rattle.recolour_bench.specs.declared.edits.EditFault.{EditFault}
 use Rattle.recolour_bench.specs.Steps as steps
@@ -19,7 +19,7 @@ use Rattle.report_text.specs.Arrays.{array_text_of}
 use Rattle.scheme_tests.specs.declared.properties.SchemeTests.{SchemeTests}
 use Rattle.scheme_tests.specs.Law.{AreAnswers}
 use Rattle.drg_arrays.specs.Graph.{graph_of}
-use Rattle.drg_arrays.proofs.OneAnswer.{IsGraphAnswer-same}
+use Rattle.drg_arrays.proofs.LawProofs.{answer_is_unique}
 use Rattle.script_text.specs.declared.acts.Act.{Act}
 use Rattle.script_text.specs.declared.acts.Act.TheVariants.{Trace, Show, Raw, Classes, Constants, Tests, Array, Write}
 use Rattle.script_text.specs.declared.acts.Line.{Line}
@@ -64,7 +64,7 @@ one_side P A B t u bad one a b =
     a
 
 one_array : (K : PairColouring) (set t u : List ℕ) → AnswersArray K set t → AnswersArray K set u → t ≡ u
-one_array K set t u a b = one_side _ _ _ t u _ (λ x y. x.2 ∙ ap array_text_of (IsGraphAnswer-same (graph_of K set) x.0 y.0 x.1 y.1) ∙ sym y.2) a b
+one_array K set t u a b = one_side _ _ _ t u _ (λ x y. x.2 ∙ ap array_text_of (answer_is_unique K set y.0 y.1 x.0 x.1) ∙ sym y.2) a b
 
 one_graph : (K : PairColouring) (form : GraphForm) (set t u : List ℕ) → WritesGraph K form set t → WritesGraph K form set u → t ≡ u
 one_graph K Graph6 set t u a b = one_side _ _ _ t u _ (λ x y. x ∙ sym y) a b

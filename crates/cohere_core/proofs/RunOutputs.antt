@@ -6,7 +6,7 @@ use Rattle.std.proofs.KnownBytes.{Keeps-refl, Appends-nil}
 use Rattle.scheme_io.specs.Files.{Files}
 use Rattle.pair_colours.specs.Colouring.{PairColouring, IsRawColouring}
 use Rattle.relation_text.specs.Relation.{IsRelationText}
-use Rattle.relation_text.proofs.RawColours.{raw_colours}
+use Rattle.relation_text.proofs.LawProofs.{reading_is_raw}
 use Rattle.script_text.specs.declared.acts.Line.{Line}
 use Rattle.cohere_inputs.specs.declared.faults.FileFault.TheVariants.{Missing, TooLong, Relation, Script, NotYet}
 use Rattle.cohere_inputs.specs.declared.faults.Unread.{Unread}
@@ -26,15 +26,6 @@ use Rattle.cohere_core.specs.RunForm.{RunOutput, AddsRunFrontOrNothing}
 use Rattle.cohere_core.proofs.Halted.{halted_status}
 use Rattle.cohere_core.proofs.Runs.{output_exists}
 
--- what is read starts a history
-IsRawColouring-read : (text : List ℕ) (line : ℕ) (C : PairColouring) → IsRelationText text line C → IsRawColouring C
-IsRawColouring-read text line C h =
-    let raw = raw_colours text line C h in
-    record {
-      fits = record { colouring = h.colouring; limit = h.limit; numbers = λ k d l. omega (arith, raw k d l) };
-      raw = raw;
-    }
-
 -- what was read is good
 good_inputs : (files : Files) (run : RunWords) (C : PairColouring) (lines : List Line) → AreRunInputs files run C lines → NoneIsBad files (Run run)
 good_inputs files run C lines read =
@@ -50,7 +41,7 @@ has_output files run none =
     let good = subst (λ (needs : List Need). AllByRecursion (IsGood files) needs) none.loaded none.good in
     let relation = good.0.text in
     let script = good.1.0.text in
-    let raw = IsRawColouring-read good.0.bytes run.line relation.0 relation.1 in
+    let raw = reading_is_raw good.0.bytes run.line relation.0 relation.1 in
     let t = output_exists relation.0 script.0 raw script.1.built in
     let inputs : AreRunInputs files run relation.0 script.0 = record {
       relation = record { bytes = good.0.bytes; file = good.0.file; reads = relation.1 };

@@ -9,7 +9,7 @@ use Rattle.std.specs.Io.KnownBytes.{Appends}
 use Rattle.scheme_io.specs.Bytes.{AppendsPart}
 use Rattle.pair_colours.specs.Colouring.{PairColouring, FitsColouring, IsRawColouring}
 use Rattle.pair_colours.specs.Naming.{rank_of}
-use Rattle.pair_colours.proofs.Closures.{named_closure_exists}
+use Rattle.pair_colours.proofs.LawProofs.{named_closure_exists, closure_is_raw, colour_set_or_not, edge_set_or_not}
 use Rattle.recolour_bench.specs.History.{History, IsHistory, Starts, present}
 use Rattle.recolour_bench.specs.declared.edits.EditFault.{EditFault}
 use Rattle.recolour_bench.specs.declared.edits.EditFault.TheVariants as faults
@@ -24,12 +24,11 @@ use Rattle.report_text.specs.Tests.{tests_text_of}
 use Rattle.report_text.specs.Arrays.{array_text_of}
 use Rattle.scheme_tests.specs.declared.properties.SchemeTests.{SchemeTests}
 use Rattle.scheme_tests.specs.Law.{AreAnswers}
-use Rattle.scheme_tests.proofs.SomeAnswers.{answers_exist}
+use Rattle.scheme_tests.proofs.LawProofs.{answers_exist}
 use Rattle.pair_colours.specs.Closure.{IsClosureOf}
-use Rattle.pair_colours.proofs.ColourSets.{colour_set_or_not, edge_set_or_not}
 use Rattle.drg_arrays.specs.declared.answer.ArrayAnswer.{ArrayAnswer}
 use Rattle.drg_arrays.specs.declared.answer.ArrayAnswer.TheVariants as arrays
-use Rattle.drg_arrays.proofs.SomeAnswer.{answer_exists}
+use Rattle.drg_arrays.proofs.LawProofs.{answer_exists}
 use Rattle.script_text.specs.declared.acts.Act.{Act}
 use Rattle.script_text.specs.declared.acts.Act.TheVariants.{Set, Both, Fix, Join, Adopt, Undo, Redo, Show, Raw, Classes, Constants, Tests, Array, Write}
 use Rattle.script_text.specs.declared.acts.Line.{Line}
@@ -44,7 +43,6 @@ use Rattle.cohere_inputs.specs.Acts.{is_built, AreBuilt}
 use Rattle.cohere_core.specs.Answer.{AnswersArray, WritesGraph, OfConfiguration, IsHalfway, MoveTakesMemory, Moves, TakesMemory, Tells, Answers, Runs, Answered, Stopped, move_of}
 use Rattle.cohere_core.specs.Law.{OutputExists, RunExists}
 use Rattle.cohere_core.specs.Output.{AddsScriptFront}
-use Rattle.cohere_core.proofs.RawClosures.{closure_is_raw}
 
 -- ---- one answer
 

@@ -10,12 +10,12 @@ use Rattle.pair_colours.specs.Colouring.{PairColouring}
 use Rattle.relation_text.specs.Relation.{IsRelationText}
 use Rattle.relation_text.specs.Faults.{relation_fault}
 use Rattle.relation_text.specs.declared.faults.RelationWord.{RelationWord}
-use Rattle.relation_text.proofs.Readings.{no_fault-read, reads_or_fails}
+use Rattle.relation_text.proofs.LawProofs.{reading_has_no_fault, reads_or_fails}
 use Rattle.script_text.specs.Script.{IsScript}
 use Rattle.script_text.specs.LineFaults.{script_fault}
 use Rattle.script_text.specs.declared.acts.Line.{Line}
 use Rattle.script_text.specs.declared.faults.ScriptWord.{ScriptWord}
-use Rattle.script_text.proofs.ScriptLaw.{script_has_no_fault, script_is_unique, script_or_fault}
+use Rattle.script_text.proofs.LawProofs.{script_has_no_fault, script_is_unique, script_or_fault}
 use Rattle.cohere_inputs.specs.declared.faults.FileFault.{FileFault}
 use Rattle.cohere_inputs.specs.declared.faults.FileFault.TheVariants.{Missing, TooLong, Relation, Script, NotYet}
 use Rattle.cohere_inputs.specs.Task.{Task, Run, IsAsked}
@@ -32,7 +32,7 @@ use Rattle.cohere_inputs.proofs.BuiltActs.{built_from_none, none_from_built}
 
 -- a text that is what it must be has no fault
 text_has_no_fault : (kind : Kind) (bytes : List ℕ) (fault : FileFault) → IsText kind bytes → IsTextFault kind bytes fault → ⊥
-text_has_no_fault (kinds.Relation line) bytes (Relation what at) good bad = none-some (what, at) (sym (no_fault-read bytes line good.0 good.1) ∙ bad)
+text_has_no_fault (kinds.Relation line) bytes (Relation what at) good bad = none-some (what, at) (sym (reading_has_no_fault bytes line good.0 good.1) ∙ bad)
 text_has_no_fault kinds.Script bytes (Script line what) good bad = none-some (line, what) (sym (script_has_no_fault bytes good.0 good.1.reads) ∙ bad)
 text_has_no_fault kinds.Script bytes (NotYet line) good bad =
     let same = script_is_unique bytes good.0 bad.lines good.1.reads bad.reads in

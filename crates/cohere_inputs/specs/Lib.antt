@@ -8,7 +8,6 @@ pub mod Needs
 pub mod Texts
 pub mod Bad
 pub mod Unread
-pub mod FaultWords
 pub mod Lines
 pub mod Said
 pub mod Law

@@ -4,7 +4,8 @@ use Rattle.cohere_inputs.specs.declared.faults.FileFault.{FileFault}
 use Rattle.cohere_inputs.specs.declared.faults.FileFault.TheVariants.{Missing, TooLong, Relation, Script, NotYet}
 use Rattle.cohere_inputs.specs.declared.faults.Unread.{Unread}
 use Rattle.cohere_inputs.specs.declared.faults.Unread.TheVariants.{Bad, StoreFailed, NoMemory}
-use Rattle.cohere_inputs.specs.FaultWords.{relation_word, script_word}
+use Rattle.relation_text.specs.RelationWord.{relation_word}
+use Rattle.script_text.specs.ScriptWord.{script_word}
 
 abbrev pub usage_line : List ℕ
 usage_line = codes "usage: cohere run RELATION SCRIPT [LINE] | cohere check TRACE | cohere demo NUMBER\n"

@@ -3,7 +3,7 @@
 //!
 //! * `words`: what the words ask for; `run_form`: the words of the form `run`, and its files.
 //! * `files`: a file that holds a relation or a script, and `faults`: why it is not read.
-//! * `saying`: the lines on standard error, with the words of faults in `fault_words`.
+//! * `saying`: the lines on standard error.
 //! * `laws`: of the files of a task none is bad, or one is the first bad one.
 //!
 //! The definitions stand in `specs/`: `Task` and `Words` say what the words ask for, `Needs` which
@@ -11,7 +11,6 @@
 //! `Lines` what is said.
 #![tactic(auto)]
 
-mod fault_words;
 mod faults;
 mod files;
 pub mod laws;

@@ -4,7 +4,6 @@ ghost use Rattle.std.specs.Prelude.{◌≡◌, ◌++◌, flat_map, codes};
 ghost use Rattle.cohere_inputs.specs.Said.{AddsLine};
 ghost use Rattle.cohere_inputs.specs.Lines.{usage_line, memory_line, unread_line, too_long_line, place_line, numbered_line, fault_line, halt_line};
 
-use crate::fault_words::{relation_word_text, script_word_text};
 use crate::faults::{FileFault, Halt, Unread};
 use scheme_io::{Sink, SinkFault, put_all};
 
@@ -93,8 +92,8 @@ fn say_fault<E: Sink>(err: &mut E, name: &str, fault: FileFault)
     match fault {
         FileFault::Missing => say_unread(err, name),
         FileFault::TooLong => say_too_long(err, name.as_bytes()),
-        FileFault::Relation { what, at } => say_place(err, name, relation_word_text(what), at),
-        FileFault::Script { line, what } => say_line(err, name, line, script_word_text(what)),
+        FileFault::Relation { what, at } => say_place(err, name, what.as_str().as_bytes(), at),
+        FileFault::Script { line, what } => say_line(err, name, line, what.as_str().as_bytes()),
         FileFault::NotYet { line } => say_line(err, name, line, b"NotYet"),
     }
 }

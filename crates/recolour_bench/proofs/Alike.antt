@@ -4,7 +4,7 @@ use Rattle.std.proofs.lemmas.List.{length-map, get_or-map, map-append, take-map}
 use Rattle.pair_colours.specs.Colouring.{PairColouring}
 use Rattle.pair_colours.specs.Closure.{IsClosureOf}
 use Rattle.pair_colours.specs.Tests.{first_that_holds}
-use Rattle.pair_colours.proofs.Closures.{named_closure_is_unique}
+use Rattle.pair_colours.proofs.LawProofs.{named_closure_is_unique}
 use Rattle.recolour_bench.specs.declared.edits.EditFault.TheVariants.{HistoryFull}
 use Rattle.recolour_bench.specs.declared.history.TheConstants.{MOST_POSITION}
 use Rattle.recolour_bench.specs.Edits.{Edit}

@@ -1,7 +1,6 @@
 mod Recoloured
 mod Unused
 mod Joined
-mod RawClosure
 mod RawEdits
 mod Stepping
 mod Alike

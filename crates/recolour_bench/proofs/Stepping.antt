@@ -6,7 +6,7 @@ use Rattle.std.proofs.lemmas.List.Elements.{All-cons, All-nil, All-push, All-tak
 use Rattle.pair_colours.specs.Colouring.{PairColouring, IsRawColouring}
 use Rattle.pair_colours.specs.Closure.{IsClosureOf}
 use Rattle.pair_colours.specs.Tests.{first_that_holds}
-use Rattle.pair_colours.proofs.Closures.{named_closure_exists}
+use Rattle.pair_colours.proofs.LawProofs.{named_closure_exists}
 use Rattle.recolour_bench.specs.declared.edits.EditFault.{EditFault}
 use Rattle.recolour_bench.specs.declared.edits.EditFault.TheVariants.{HistoryFull, NothingToUndo, NothingToRedo}
 use Rattle.recolour_bench.specs.declared.history.TheConstants.{MOST_POSITION}

@@ -11,8 +11,8 @@ use Rattle.pair_colours.proofs.Few.{colours_met-le}
 use Rattle.pair_colours.proofs.NamePlaces.{name_of-position}
 
 -- the closure's names are fewer than the raw colours
-pub IsRawColouring-closure : (C K : PairColouring) → IsRawColouring C → IsClosureOf K C → IsRawColouring K
-IsRawColouring-closure C K c k = record {
+pub closure_is_raw : (C K : PairColouring) → IsRawColouring C → IsClosureOf K C → IsRawColouring K
+closure_is_raw C K c k = record {
   fits = record { colouring = k.closure.colouring; limit = limit; numbers = λ i d l. omega (arith, names i d l) };
   raw = names;
 }

@@ -33,3 +33,4 @@ mod StepsRead
 mod RowPlaces
 mod ChainRead
 mod WorkedTexts
+mod TraceRead

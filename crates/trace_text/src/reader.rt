@@ -49,7 +49,7 @@ pub(crate) fn read_matrix(
 }
 
 // What ends the steps of a stage.
-#[derive(Clone, Copy, Debug, PartialEq, Eq)]
+#[derive(Clone, Copy)]
 pub(crate) enum After {
     Stage,
     Closure,
@@ -121,8 +121,9 @@ fn read_chain(alloc: Global, cursor: &mut TraceCursor<'_>, size: u32) -> Result<
         let colours = read_matrix(alloc, cursor, size)?;
         let (steps, after) = read_steps(alloc, cursor)?;
         chain.push(Stage { colours, steps })?;
-        if after == After::Closure {
-            return Ok(chain);
+        match after {
+            After::Stage => {}
+            After::Closure => return Ok(chain),
         }
     }
 }

@@ -19,5 +19,5 @@ loop-x-preserved c =
 
 pub returns-clause-rows : goal.returns-clause-rows
 returns-clause-rows c =
-    (rows_all c.args.size c.loop-x.x c.args.cursor.now.line c.args.cursor.now.lines c.loop-x.cursor.line c.loop-x.cursor.lines c.loop-x.colours c.loop-x.invariant
+    (rows_all c.args.size c.loop-x.x c.args.cursor.now.line c.args.cursor.now.lines c.loop-x.cursor.line c.loop-x.cursor.lines c.loop-x.colours c.requires.few c.loop-x.invariant
     (omega (arith, c.loop-x-test.false, c.loop-x.auto.x-end))).rows

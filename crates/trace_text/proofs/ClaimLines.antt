@@ -25,7 +25,7 @@ row_numbers C x c h =
     let len : length (map (λ y. colour_at C x y) (points n)) ≡ n = length-map-range_with_len (λ y. colour_at C x y) 0 n in
     ext_get_or 0 (map (λ y. colour_at C x y) (points n)) (take n (drop (x * n) C.colours)) (len ∙ sym (length-take-le n (drop (x * n) C.colours) room))
     (λ i below. let b : i < n = omega (arith, below, len) in
-        get_or-map-range_with_len (λ y. colour_at C x y) 0 n i i 0 b (omega arith) ∙ sym (get_or-take n (drop (x * n) C.colours) i 0 b ∙ get_or-drop (x * n) C.colours i 0))
+    get_or-map-range_with_len (λ y. colour_at C x y) 0 n i i 0 b (omega arith) ∙ sym (get_or-take n (drop (x * n) C.colours) i 0 b ∙ get_or-drop (x * n) C.colours i 0))
 
 rows_from : (C : PairColouring) (k x : ℕ) → IsColouring C → x + k ≤ C.size → map (matrix_row C) (range_with_len x k) ≡ rows_of C.size k (drop (x * C.size) C.colours)
 rows_from C zero x c h = refl

@@ -153,9 +153,11 @@ claim_plain : (claim : Claim) → FitsTrace claim → AllByRecursion IsPlain (sh
 claim_plain claim f =
     let c = f.closure.fits.colouring in (
       literal (codes "trace 1") refl (omega arith),
-      (record { some = omega arith; high = points_high claim.closure.size (omega (arith, f.closure.fits.limit)) },
-      Each-append IsPlain (flat_map stage_shown claim.chain) (closure_shown claim.closure.size claim.closure.colours) (chain_plain claim.closure.size claim.chain f.stages)
-          (closure_plain claim.closure.size claim.closure.colours c.has_points c.has_pairs (raw_each claim.closure f.closure))),
+      (
+        record { some = omega arith; high = points_high claim.closure.size (omega (arith, f.closure.fits.limit)) },
+        Each-append IsPlain (flat_map stage_shown claim.chain) (closure_shown claim.closure.size claim.closure.colours) (chain_plain claim.closure.size claim.chain f.stages)
+            (closure_plain claim.closure.size claim.closure.colours c.has_points c.has_pairs (raw_each claim.closure f.closure)),
+      ),
     )
 
 pub text_lines : (claim : Claim) → FitsTrace claim → map (λ part. part.bytes) (lines_of (trace_text claim)) ≡ trace_lines claim

@@ -84,6 +84,7 @@ all_numbers limit l (n ∷ ns) a =
 pub are_numbers-decimal : (limit n : ℕ) (numbers : List ℕ) → limit < 2 ^ 32 → length numbers ≡ n → AllByRecursion (λ n. n ≤ limit) numbers → are_numbers limit n (map decimal numbers) ≡ true
 are_numbers-decimal limit n numbers l e a =
     and_from (eqb (length (map decimal numbers)) n) (list_all (is_number_to limit) (map decimal numbers)) (eq-eqb (length (map decimal numbers)) n (length-map numbers decimal ∙ e)) (all_numbers limit l numbers a)
+
 pub values-decimal : (limit : ℕ) → limit < 2 ^ 32 → (numbers : List ℕ) → AllByRecursion (λ n. n ≤ limit) numbers → map value (map decimal numbers) ≡ numbers
 values-decimal limit l [] a = refl
 values-decimal limit l (n ∷ ns) a = λ i. value-decimal n (omega (arith, a.0, l)) i ∷ values-decimal limit l ns a.1 i

@@ -262,11 +262,14 @@ stage_fits n r f = record {
   rest = record {
     some = f.rest.some;
     few = f.rest.few;
-    stages = (record {
-      points = refl;
-      colours = raw_from (record { size = n; colours = r.numbers }) (record { has_points = f.rest.some; has_pairs = f.has }) f.rest.few f.each;
-      steps = f.steps;
-    }, f.rest.stages);
+    stages = (
+      record {
+        points = refl;
+        colours = raw_from (record { size = n; colours = r.numbers }) (record { has_points = f.rest.some; has_pairs = f.has }) f.rest.few f.each;
+        steps = f.steps;
+      },
+      f.rest.stages,
+    );
     count = f.rest.count;
     small = f.rest.small;
   };

@@ -1,11 +1,11 @@
 //! The reader of traces.
 
-ghost use Rattle.std.specs.Prelude.{◌≡◌, ℕ, ◌≤◌, ◌+◌, ◌++◌, ◌∷◌, IfOk, IfErr, None, OnOk, codes, length, map, option_map};
+ghost use Rattle.std.specs.Prelude.{◌≡◌, ℕ, ◌≤◌, ◌+◌, ◌++◌, ◌∷◌, [], IfOk, IfErr, None, OnOk, codes, decimal, length, map, option_map};
 ghost use Rattle.std.specs.List.{AllByRecursion, flat_map};
 ghost use Rattle.pair_colours.specs.Colouring.{IsRawColouring};
 ghost use Rattle.pair_colours.specs.declared.coloured_pairs.TheConstants.{MOST_POINTS};
 ghost use Rattle.trace_text.specs.declared.trace_faults.TraceWord.TheVariants as words;
-ghost use Rattle.trace_text.specs.TraceFault.{at_body, fault_from, next_closure_row, next_row, trace_fault};
+ghost use Rattle.trace_text.specs.TraceFault.{at_body, at_end, at_head, fault_from, next_closure_row, next_row, trace_fault};
 ghost use Rattle.trace_text.specs.TraceText.{matrix_lines, stage_lines, step_line};
 ghost use Rattle.trace_text.specs.ClaimTexts.{IsTraceStage, IsTraceStep, IsTraceText};
 ghost use Rattle.trace_text.specs.Reading.{IsFaultOf, rows_fault, after_line, after_place};
@@ -85,27 +85,6 @@ pub(crate) fn read_steps(
     }
 }
 
-/// Reads a trace: the claim whose text this is.
-///
-/// The fault is at the first line that may not stand in its place, or on the line after the last if
-/// the text ends too early, with the word for what was expected.
-pub fn read_trace(alloc: Global, bytes: &[u8]) -> Result<Claim, TraceFault>
-    requires { length bytes.now ≤ MOST_TRACE }
-    ensures claim { IfOk result (λ claim. IsTraceText bytes.now claim) }
-    ensures clean { OnOk result (trace_fault bytes.now ≡ None) }
-    ensures fault { IfErr result (λ fault. IsFaultOf fault (trace_fault bytes.now)) }
-{
-    let mut cursor = TraceCursor::new(bytes);
-    cursor.fixed(b"trace 1", TraceWord::Head)?;
-    let size = cursor.points()?;
-    cursor.fixed(b"stage", TraceWord::Stage)?;
-    let chain = read_chain(alloc, &mut cursor, size)?;
-    let closure = read_matrix(alloc, &mut cursor, size)?;
-    cursor.fixed(b"end", TraceWord::End)?;
-    cursor.end()?;
-    Ok(Claim { chain, closure })
-}
-
 // Reads the stages after the line of the first, and the line of the closure.
 fn read_chain(alloc: Global, cursor: &mut TraceCursor<'_>, size: u32) -> Result<Chain, TraceFault>
     requires some { 1 ≤ size }
@@ -126,4 +105,46 @@ fn read_chain(alloc: Global, cursor: &mut TraceCursor<'_>, size: u32) -> Result<
             After::Closure => return Ok(chain),
         }
     }
+}
+
+// Reads the lines before the rows of the first stage, and gives the number of points.
+fn read_head(cursor: &mut TraceCursor<'_>) -> Result<u32, TraceFault>
+    ensures lines { IfOk result (λ n. cursor.old.lines ≡ codes "trace 1" ∷ (codes "points " ++ decimal n) ∷ codes "stage" ∷ cursor.new.lines) }
+    ensures some { IfOk result (λ n. 1 ≤ n) }
+    ensures few { IfOk result (λ n. n ≤ MOST_POINTS) }
+    ensures clean { IfOk result (λ n. fault_from cursor.old.line at_head cursor.old.lines ≡ fault_from cursor.new.line (next_row n n) cursor.new.lines) }
+    ensures fault { IfErr result (λ fault. IsFaultOf fault (fault_from cursor.old.line at_head cursor.old.lines)) }
+{
+    cursor.fixed(b"trace 1", TraceWord::Head)?;
+    let size = cursor.points()?;
+    cursor.fixed(b"stage", TraceWord::Stage)?;
+    Ok(size)
+}
+
+// Reads the last line.
+fn read_end(cursor: &mut TraceCursor<'_>) -> Result<(), TraceFault>
+    ensures lines { OnOk result (cursor.old.lines ≡ codes "end" ∷ []) }
+    ensures clean { OnOk result (fault_from cursor.old.line at_end cursor.old.lines ≡ None) }
+    ensures fault { IfErr result (λ fault. IsFaultOf fault (fault_from cursor.old.line at_end cursor.old.lines)) }
+{
+    cursor.fixed(b"end", TraceWord::End)?;
+    cursor.end()
+}
+
+/// Reads a trace: the claim whose text this is.
+///
+/// The fault is at the first line that may not stand in its place, or on the line after the last if
+/// the text ends too early, with the word for what was expected.
+pub fn read_trace(alloc: Global, bytes: &[u8]) -> Result<Claim, TraceFault>
+    requires { length bytes.now ≤ MOST_TRACE }
+    ensures claim { IfOk result (λ claim. IsTraceText bytes.now claim) }
+    ensures clean { OnOk result (trace_fault bytes.now ≡ None) }
+    ensures fault { IfErr result (λ fault. IsFaultOf fault (trace_fault bytes.now)) }
+{
+    let mut cursor = TraceCursor::new(bytes);
+    let size = read_head(&mut cursor)?;
+    let chain = read_chain(alloc, &mut cursor, size)?;
+    let closure = read_matrix(alloc, &mut cursor, size)?;
+    read_end(&mut cursor)?;
+    Ok(Claim { chain, closure })
 }

@@ -34,3 +34,5 @@ mod RowPlaces
 mod ChainRead
 mod WorkedTexts
 mod TraceRead
+mod AcceptedTexts
+mod Lengths

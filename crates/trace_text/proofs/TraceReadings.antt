@@ -83,8 +83,11 @@ said_claim lines e =
     let f = fits_claim (decode at_head lines) w.fits in
     record { are = sym w.shows ∙ sym (claim_lines (claim_of (decode at_head lines)) f); fits = f }
 
-pub trace_is_unique : (text : List ℕ) (claim other : Claim) → IsTraceText text claim → IsTraceText text other → claim ≡ other
-trace_is_unique text claim other a b =
+pub reading_has_no_fault : (text : List ℕ) (claim : Claim) → IsTraceText text claim → trace_fault text ≡ None
+reading_has_no_fault text claim t = (claim_said (map (λ part. part.bytes) (lines_of text)) claim t.lines).clean 1
+
+pub reading_is_unique : (text : List ℕ) (claim other : Claim) → IsTraceText text claim → IsTraceText text other → claim ≡ other
+reading_is_unique text claim other a b =
     ap claim_of (sym (claim_said (map (λ part. part.bytes) (lines_of text)) claim a.lines).says ∙ (claim_said (map (λ part. part.bytes) (lines_of text)) other b.lines).says)
 
 pub trace_reads_or_fails : (text : List ℕ) → MatchOption (trace_fault text) ((claim : Claim) × IsTraceText text claim) (λ _. (claim : Claim) → ¬ IsTraceText text claim)
@@ -92,11 +95,11 @@ trace_reads_or_fails text =
     let lines = map (λ part. part.bytes) (lines_of text) in
     elim (trace_fault text) as (λ o. trace_fault text ≡ o → MatchOption o ((claim : Claim) × IsTraceText text claim) (λ _. (claim : Claim) → ¬ IsTraceText text claim)) [
       | None ↦ λ e. (claim_of (decode at_head lines), record { lines = said_claim lines e })
-      | Some fault ↦ λ e claim t. let both : None ≡ Some fault = sym ((claim_said lines claim t.lines).clean 1) ∙ e in absurd cc
+      | Some fault ↦ λ e claim t. let both : None ≡ Some fault = sym (reading_has_no_fault text claim t) ∙ e in absurd cc
     ] refl
 
-pub trace_is_read_back : (claim : Claim) → FitsTrace claim → IsTraceText (trace_text claim) claim
-trace_is_read_back claim f = record { lines = record { are = text_lines claim f; fits = f } }
+pub text_is_read_back : (claim : Claim) → FitsTrace claim → IsTraceText (trace_text claim) claim
+text_is_read_back claim f = record { lines = record { are = text_lines claim f; fits = f } }
 
-pub trace_text_is_unique : (claim other : Claim) → FitsTrace claim → FitsTrace other → trace_text claim ≡ trace_text other → claim ≡ other
-trace_text_is_unique claim other f g e = trace_is_unique (trace_text other) claim other (subst (λ text. IsTraceText text claim) e (trace_is_read_back claim f)) (trace_is_read_back other g)
+pub text_is_of_one_claim : (claim other : Claim) → FitsTrace claim → FitsTrace other → trace_text claim ≡ trace_text other → claim ≡ other
+text_is_of_one_claim claim other f g e = reading_is_unique (trace_text other) claim other (subst (λ text. IsTraceText text claim) e (text_is_read_back claim f)) (text_is_read_back other g)

@@ -23,9 +23,6 @@ pub record ReadsChain (n line0 : ℕ) (lines0 : List (List ℕ)) (line : ℕ) (l
   pub stages : AllByRecursion (IsTraceStage n) chain
   pub faults : fault_from line0 (next_row n n) lines0 ≡ fault_from line (after_place n after) lines
 
-pub chain_none : (n line : ℕ) (lines : List (List ℕ)) → ReadsChain n line lines line lines [] ends.Stage
-chain_none n line lines = record { lines_are = refl; stages = tt; faults = refl }
-
 -- the faults of a stage are those after its rows
 pub stage_faults : (n line0 line next : ℕ) (lines0 lines rest : List (List ℕ)) (chain : List Stage) (C : PairColouring) → ReadsChain n line0 lines0 line lines chain ends.Stage
     → C.size ≡ n → rows_fault n n line lines ≡ None → lines ≡ matrix_lines C ++ rest → next ≡ line + n

@@ -52,6 +52,7 @@ chain_lines-shown n (s ∷ chain) a = λ i. stage_lines-shown s a.0.colours.fits
 abbrev pub left_of : Claim → Left
 left_of claim = record { size = claim.closure.size; numbers = []; steps = []; chain = claim.chain; closure = claim.closure.colours }
 
+-- the claim that is said
 abbrev pub claim_of : Left → Claim
 claim_of r = record { chain = r.chain; closure = record { size = r.size; colours = r.closure } }
 
@@ -82,6 +83,3 @@ claim_lines claim f =
     let closure = matrix_shown claim.closure f.closure.fits.colouring in
     ap (λ l. codes "trace 1" ∷ (codes "points " ++ decimal claim.closure.size) ∷ l) (append_assoc (flat_map stage_lines claim.chain) (codes "closure" ∷ matrix_lines claim.closure) (codes "end" ∷ []))
     ∙ (λ i. codes "trace 1" ∷ (codes "points " ++ decimal claim.closure.size) ∷ (chain i ++ (codes "closure" ∷ (closure i ++ (codes "end" ∷ [])))))
-
-pub same_claim : (r : Left) (claim : Claim) → r ≡ left_of claim → claim_of r ≡ claim
-same_claim r claim e = ap claim_of e

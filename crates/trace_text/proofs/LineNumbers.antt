@@ -62,6 +62,7 @@ pub some_value : (o : Option ℕ) → is_some o ≡ true → o ≡ Some (unwrap_
 some_value None h = absurd cc
 some_value (Some n) h = refl
 
+-- the word is the number, which is within the limit
 pub record WritesTo (limit : ℕ) (word : List ℕ) (n : ℕ) : Type 0 where
   pub spelled : word ≡ decimal n
   pub small : n ≤ limit
@@ -89,6 +90,7 @@ pub values-decimal : (limit : ℕ) → limit < 2 ^ 32 → (numbers : List ℕ) �
 values-decimal limit l [] a = refl
 values-decimal limit l (n ∷ ns) a = λ i. value-decimal n (omega (arith, a.0, l)) i ∷ values-decimal limit l ns a.1 i
 
+-- the words are n numbers, each within the limit
 pub record WriteTo (limit n : ℕ) (words : List (List ℕ)) (numbers : List ℕ) : Type 0 where
   pub count : length numbers ≡ n
   pub spelled : words ≡ map decimal numbers

@@ -20,7 +20,7 @@ use Rattle.trace_text.specs.TraceFault.{Place, at_head, at_points, at_stage, at_
 use Rattle.trace_text.specs.ClaimTexts.{IsTraceStep}
 use Rattle.trace_text.proofs.LineNumbers.{both, HasNoSpace, split_join, join_split, value, number_of-decimal, value-decimal, WriteTo, write_values, are_numbers-decimal, values-decimal, small_numbers, decimals_no_space, between_spaces-spaced, some_value}
 
--- a row line
+-- the numbers of a row line
 abbrev pub numbers_in : List ℕ → List ℕ
 numbers_in line = map value (between_spaces line)
 
@@ -33,6 +33,7 @@ row_good n (c ∷ cs) h e a =
       ap (map value) cut ∙ values-decimal MOST_COLOUR (omega arith) (c ∷ cs) a,
     )
 
+-- the line is the row of n raw colours
 pub record IsRowOf (n : ℕ) (line numbers : List ℕ) : Type 0 where
   pub count : length numbers ≡ n
   pub spelled : line ≡ spaced numbers
@@ -43,13 +44,14 @@ row_back n line h =
     let w = write_values MOST_COLOUR n (between_spaces line) h in
     record { count = w.count; spelled = sym (join_split line) ∙ ap (join_with_byte 32) w.spelled; small = w.small }
 
--- a step line
+-- the step that words say
 abbrev pub step_of : List (List ℕ) → Step
 step_of (letter ∷ k ∷ []) = Diag (value k)
 step_of (letter ∷ k ∷ i ∷ []) = Flip (value k) (value i)
 step_of (letter ∷ k ∷ i ∷ j ∷ []) = Tri (value k) (value i) (value j)
 step_of _ = Diag 0
 
+-- the step of a line
 abbrev pub step_in : List ℕ → Step
 step_in line = step_of (between_spaces line)
 
@@ -70,6 +72,7 @@ step_cut s a = ap between_spaces (step_line-words s) ∙ split_join (letter_of s
     letter_no_space (Flip k i) = (refl, tt)
     letter_no_space (Tri k i j) = (refl, tt)
 
+-- the words of a step line
 abbrev pub is_step : List (List ℕ) → Bool
 is_step words = is_lettered (codes "D") 1 words || is_lettered (codes "F") 2 words || is_lettered (codes "T") 3 words
 
@@ -99,6 +102,7 @@ or_from false b h = inr h
 pub bytes_same : (xs ys : List ℕ) → bytes_eq xs ys ≡ true → xs ≡ ys
 bytes_same xs ys h = (bytes_eq-Decides xs ys).0 h
 
+-- the words are those of the step that they say
 pub record AreStepWords (words : List (List ℕ)) : Type 0 where
   pub spelled : words ≡ step_words (step_of words)
   pub small : IsTraceStep (step_of words)
@@ -136,6 +140,7 @@ words_back (word ∷ words) h = elim (or_from (is_lettered (codes "D") 1 (word �
   | inr t ↦ tri_back word words t
 ]
 
+-- the line is that of the step, whose numbers are within the limit
 pub record IsLineOf (line : List ℕ) (s : Step) : Type 0 where
   pub spelled : line ≡ step_line s
   pub small : IsTraceStep s
@@ -153,6 +158,7 @@ pub some_from : {X : Type 0} (t : Bool) (o : Option X) (n : X) → cond t o None
 some_from true o n e = (refl, e)
 some_from false o n e = absurd cc
 
+-- the line tells n points
 pub record IsPointsLine (line : List ℕ) (n : ℕ) : Type 0 where
   pub spelled : line ≡ codes "points " ++ decimal n
   pub some : 1 ≤ n

@@ -25,6 +25,7 @@ pub record Left : Type 0 where
   pub chain : List Stage
   pub closure : List ℕ
 
+-- no lines are left
 abbrev pub nothing : Left
 nothing = record { size = 0; numbers = []; steps = []; chain = []; closure = [] }
 
@@ -38,15 +39,19 @@ with_stage n after = record {
   closure = after.closure;
 }
 
+-- numbers of a row in front
 abbrev pub with_numbers : List ℕ → Left → Left
 with_numbers numbers after = record { size = after.size; numbers = numbers ++ after.numbers; steps = after.steps; chain = after.chain; closure = after.closure }
 
+-- a step in front
 abbrev pub with_step : Step → Left → Left
 with_step s after = record { size = after.size; numbers = after.numbers; steps = s ∷ after.steps; chain = after.chain; closure = after.closure }
 
+-- numbers of a row of the closure in front
 abbrev pub with_closure : List ℕ → Left → Left
 with_closure numbers after = record { size = after.size; numbers = after.numbers; steps = after.steps; chain = after.chain; closure = numbers ++ after.closure }
 
+-- the number of points in front
 abbrev pub with_size : ℕ → Left → Left
 with_size n after = record { size = n; numbers = after.numbers; steps = after.steps; chain = after.chain; closure = after.closure }
 
@@ -62,34 +67,42 @@ decode_line (at_closure_row n more) line after = with_closure (numbers_in line) 
 decode_line at_end line after = after
 decode_line at_extra line after = after
 
+-- what a line says with those after it
 abbrev pub decode_on : Place → List ℕ → Option Place → (Place → Left) → Left
 decode_on place line None later = nothing
 decode_on place line (Some next) later = decode_line place line (later next)
 
+-- what the lines from a place on say
 abbrev pub decode : Place → List (List ℕ) → Left
 decode place [] = nothing
 decode place (line ∷ lines) = decode_on place line (next_place place line) (λ next. decode next lines)
 
--- the lines that say it
+-- numbers as k rows of n
 abbrev pub rows_of : ℕ → ℕ → List ℕ → List (List ℕ)
 rows_of n zero numbers = []
 rows_of n (suc k) numbers = spaced (take n numbers) ∷ rows_of n k (drop n numbers)
 
+-- the lines of a stage
 abbrev pub stage_shown : Stage → List (List ℕ)
 stage_shown s = codes "stage" ∷ (rows_of s.colours.size s.colours.size s.colours.colours ++ map step_line s.steps)
 
+-- the lines from `closure` on
 abbrev pub closure_shown : ℕ → List ℕ → List (List ℕ)
 closure_shown n closure = codes "closure" ∷ (rows_of n n closure ++ (codes "end" ∷ []))
 
+-- the lines from a stage on
 abbrev pub chain_shown : ℕ → Left → List (List ℕ)
 chain_shown n r = flat_map stage_shown r.chain ++ closure_shown n r.closure
 
+-- the lines from a step on
 abbrev pub body_shown : ℕ → Left → List (List ℕ)
 body_shown n r = map step_line r.steps ++ chain_shown n r
 
+-- the lines from the number of points on
 abbrev pub points_shown : Left → List (List ℕ)
 points_shown r = (codes "points " ++ decimal r.size) ∷ chain_shown r.size r
 
+-- the lines from a place on that say this
 abbrev pub shown : Place → Left → List (List ℕ)
 shown at_head r = codes "trace 1" ∷ points_shown r
 shown at_points r = points_shown r
@@ -100,7 +113,7 @@ shown (at_closure_row n more) r = rows_of n (suc more) r.closure ++ (codes "end"
 shown at_end r = codes "end" ∷ []
 shown at_extra r = []
 
--- it fits the place
+-- the stages and the closure that are left have n points, and numbers within the limits
 pub record FitsChain (n : ℕ) (r : Left) : Type 0 where
   pub some : 1 ≤ n
   pub few : n ≤ MOST_POINTS
@@ -108,6 +121,7 @@ pub record FitsChain (n : ℕ) (r : Left) : Type 0 where
   pub count : length r.closure ≡ n * n
   pub small : AllByRecursion (λ c. c ≤ MOST_COLOUR) r.closure
 
+-- it fits where k rows of a stage are to come
 pub record FitsRows (n k : ℕ) (r : Left) : Type 0 where
   pub size : r.size ≡ 0
   pub has : length r.numbers ≡ k * n
@@ -115,6 +129,7 @@ pub record FitsRows (n k : ℕ) (r : Left) : Type 0 where
   pub steps : AllByRecursion IsTraceStep r.steps
   pub rest : FitsChain n r
 
+-- it fits where k rows of the closure are to come
 pub record FitsClosure (n k : ℕ) (r : Left) : Type 0 where
   pub some : 1 ≤ n
   pub size : r.size ≡ 0
@@ -124,12 +139,14 @@ pub record FitsClosure (n k : ℕ) (r : Left) : Type 0 where
   pub count : length r.closure ≡ k * n
   pub small : AllByRecursion (λ c. c ≤ MOST_COLOUR) r.closure
 
+-- it fits where the first stage is to come
 pub record FitsStages (n : ℕ) (r : Left) : Type 0 where
   pub numbers : r.numbers ≡ []
   pub steps : r.steps ≡ []
   pub has_stage : 1 ≤ length r.chain
   pub rest : FitsChain n r
 
+-- it fits the place
 abbrev pub Fits : Place → Left → Type 0
 Fits at_head r = FitsStages r.size r
 Fits at_points r = FitsStages r.size r
@@ -186,6 +203,7 @@ pub record BackTo (place : Place) (line : List ℕ) (next : Place) (after r : Le
   pub shows : shown place r ≡ line ∷ shown next after
   pub fits : Fits place r
 
+-- a line in front of what the lines after it say
 abbrev pub Back : Place → List ℕ → Place → Left → Type 0
 Back place line next after = BackTo place line next after (decode_line place line after)
 
@@ -297,6 +315,7 @@ first_stage n s chain closure f =
       };
     }
 
+-- what is left after the rows of a stage
 abbrev body_left : List Step → List Stage → List ℕ → Left
 body_left steps chain closure = record { size = 0; numbers = []; steps = steps; chain = chain; closure = closure }
 

@@ -16,6 +16,7 @@ use Rattle.trace_text.proofs.LineReadings.{numbers_in, row_back, IsRowOf}
 use Rattle.trace_text.proofs.LinesLeft.{rows_of}
 use Rattle.trace_text.proofs.ClaimLines.{matrix_shown}
 
+-- the first x rows were read
 pub record ReadsRows (n x line0 : ℕ) (lines0 : List (List ℕ)) (line : ℕ) (lines : List (List ℕ)) (c : PairColouring) : Type 0 where
   pub size : c.size ≡ n
   pub colouring : IsColouring c
@@ -23,18 +24,6 @@ pub record ReadsRows (n x line0 : ℕ) (lines0 : List (List ℕ)) (line : ℕ) (
   pub rows : lines0 ≡ rows_of n x (take (x * n) c.colours) ++ lines
   pub small : AllByRecursion (λ k. k ≤ MOST_COLOUR) (take (x * n) c.colours)
   pub number : line ≡ line0 + x
-
-pub rows_none : (n line : ℕ) (lines : List (List ℕ)) (c : PairColouring) → c.size ≡ n → IsColouring c → ReadsRows n 0 line lines line lines c
-rows_none n line lines c size colouring =
-    let none : 0 * n ≡ 0 = omega arith in
-    record {
-      size = size;
-      colouring = colouring;
-      faults = ap (λ m. rows_fault n m line lines) (omega arith);
-      rows = refl;
-      small = subst (λ k. AllByRecursion (λ colour. colour ≤ MOST_COLOUR) (take k c.colours)) (sym none) tt;
-      number = omega arith;
-    }
 
 -- one more row at the end
 rows_of-push : (n x : ℕ) (xs ys : List ℕ) → length xs ≡ x * n → length ys ≡ n → rows_of n (x + 1) (xs ++ ys) ≡ rows_of n x xs ++ spaced ys ∷ []
@@ -49,15 +38,6 @@ rows_of-push n (suc k) xs ys e f =
 -- the next line is a row or not
 rows_fault-next : (n x line : ℕ) (lines : List (List ℕ)) → x < n → rows_fault n (n - x) line lines ≡ rows_fault n (suc (n - (x + 1))) line lines
 rows_fault-next n x line lines h = let more : n - x ≡ suc (n - (x + 1)) = omega (arith, h) in ap (λ m. rows_fault n m line lines) more
-
-pub rows_end_early : (n x line0 : ℕ) (lines0 : List (List ℕ)) (line : ℕ) (lines : List (List ℕ)) (c : PairColouring) → ReadsRows n x line0 lines0 line lines c → x < n → lines ≡ [] → rows_fault n n line0 lines0 ≡ Some line
-rows_end_early n x line0 lines0 line lines c r h e = r.faults ∙ rows_fault-next n x line lines h ∙ ap (rows_fault n (suc (n - (x + 1))) line) e
-
-pub rows_bad : (n x line0 : ℕ) (lines0 : List (List ℕ)) (line : ℕ) (lines rest : List (List ℕ)) (row : List ℕ) (c : PairColouring) → ReadsRows n x line0 lines0 line lines c → x < n → lines ≡ row ∷ rest → is_row_line n row ≡ false
-    → rows_fault n n line0 lines0 ≡ Some line
-rows_bad n x line0 lines0 line lines rest row c r h e bad =
-    r.faults ∙ rows_fault-next n x line lines h ∙ ap (rows_fault n (suc (n - (x + 1))) line) e
-    ∙ ap (λ b. cond b (rows_fault n (n - (x + 1)) (line + 1) rest) (Some line)) bad
 
 pub rows_more : (n x line0 : ℕ) (lines0 : List (List ℕ)) (line : ℕ) (lines rest : List (List ℕ)) (row : List ℕ) (c d : PairColouring) → ReadsRows n x line0 lines0 line lines c → x < n → lines ≡ row ∷ rest → is_row_line n row ≡ true
     → d.size ≡ n → IsColouring d → take (x * n + n) d.colours ≡ take (x * n) c.colours ++ numbers_in row → (next : ℕ) → next ≡ line + 1 → ReadsRows n (x + 1) line0 lines0 next rest d

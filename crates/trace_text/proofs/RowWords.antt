@@ -32,6 +32,7 @@ lines_len (suc n) place (b ∷ text) h =
 pub few_lines : (place : ℕ) (text : List ℕ) → length (lines_from place text) ≤ length text
 few_lines place text = lines_len (length text) place text (omega arith)
 
+-- a byte between words
 abbrev is_space : ℕ → Bool
 is_space b = eqb b 32
 
@@ -66,16 +67,6 @@ pub record ReadsRow (line : List ℕ) (old now : PairColouring) (x y : ℕ) (wor
   pub size : now.size ≡ old.size
   pub colouring : IsColouring now
   pub row : take (x * old.size + y) now.colours ≡ take (x * old.size) old.colours ++ map value (take y (between_spaces line))
-
-pub row_none : (line : List ℕ) (old : PairColouring) (x : ℕ) → IsColouring old → ReadsRow line old old x 0 (between_spaces line)
-row_none line old x c = record {
-  left = refl;
-  enough = omega arith;
-  good = refl;
-  size = refl;
-  colouring = c;
-  row = ap (λ k. take k old.colours) (omega arith) ∙ sym (append-nil (take (x * old.size) old.colours));
-}
 
 pub row_more : (line : List ℕ) (old now new : PairColouring) (x y colour : ℕ) (words after : List (List ℕ)) (word : List ℕ) → ReadsRow line old now x y words → words ≡ word ∷ after
     → is_number_to MOST_COLOUR word ≡ true → number_of word ≡ Some colour → x < old.size → y < old.size → new.size ≡ now.size → new.colours ≡ set now.colours (x * now.size + y) colour

@@ -17,9 +17,6 @@ pub record ReadsNumbers (ws : List (List ℕ)) (y : ℕ) (numbers : List ℕ) (w
   pub values : take y numbers ≡ map value (take y ws)
   pub room : length numbers ≡ 3
 
-pub numbers_none : (ws : List (List ℕ)) (numbers : List ℕ) → length numbers ≡ 3 → ReadsNumbers ws 0 numbers ws
-numbers_none ws numbers e = record { left = refl; enough = omega arith; good = refl; values = refl; room = e }
-
 pub numbers_more : (ws : List (List ℕ)) (y number : ℕ) (numbers : List ℕ) (words after : List (List ℕ)) (word : List ℕ) → ReadsNumbers ws y numbers words → y < 3 → words ≡ word ∷ after
     → is_number_to MOST_STEP_NUMBER word ≡ true → number_of word ≡ Some number → ReadsNumbers ws (y + 1) (set numbers y number) after
 numbers_more ws y number numbers words after word r h e good is =

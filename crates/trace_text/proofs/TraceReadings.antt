@@ -46,6 +46,7 @@ option_cases : {X : Type 0} (o : Option X) → (o ≡ None) ⊎ ((x : X) × (o �
 option_cases None = inl refl
 option_cases (Some x) = inr (x, refl)
 
+-- a fault
 abbrev some_fault : ℕ × TraceWord → Option (ℕ × TraceWord)
 some_fault f = Some f
 

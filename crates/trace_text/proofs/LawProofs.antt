@@ -1,11 +1,14 @@
 -- The proofs of the laws, under the names by which crates above cite them.
-use Rattle.trace_text.specs.Law.{SplitIsPartition, SplitRefines, SplitRank, PartsOneClass, PartsTwoKeys, SplitKeepsCoherent, MeetIsNamedMeet, AcceptedIsClosure, ClosureOfMeet, StepsExist, VerdictExists, AcceptedHasNone, FirstBadLineIsUnique}
+use Rattle.trace_text.specs.Law.{SplitIsPartition, SplitRefines, SplitRank, PartsOneClass, PartsTwoKeys, SplitKeepsCoherent, MeetIsNamedMeet, AcceptedIsClosure, ClosureOfMeet, StepsExist, VerdictExists, AcceptedHasNone, FirstBadLineIsUnique, TraceReadsOrFails, ReadingHasNoFault, ReadingIsUnique, TextIsReadBack, TextIsOfOneClaim, AcceptedFitsTrace, AcceptedTextFits}
 use Rattle.trace_text.proofs.Splits as splits
 use Rattle.trace_text.proofs.OneClass as one_class
 use Rattle.trace_text.proofs.Meeting as meeting
 use Rattle.trace_text.proofs.Reaching as reaching
 use Rattle.trace_text.proofs.Stages as stages
 use Rattle.trace_text.proofs.Verdicts as verdicts
+use Rattle.trace_text.proofs.TraceReadings as readings
+use Rattle.trace_text.proofs.AcceptedTexts as accepted
+use Rattle.trace_text.proofs.Lengths as lengths
 
 -- a split of a partition is a partition that refines it, with one class more for each later key
 pub split_is_partition : SplitIsPartition
@@ -52,3 +55,27 @@ accepted_has_none = verdicts.accepted_has_none
 
 pub first_bad_line_is_unique : FirstBadLineIsUnique
 first_bad_line_is_unique = verdicts.first_bad_line_is_unique
+
+-- each text is a trace of one claim, or has a fault
+pub trace_reads_or_fails : TraceReadsOrFails
+trace_reads_or_fails = readings.trace_reads_or_fails
+
+pub reading_has_no_fault : ReadingHasNoFault
+reading_has_no_fault = readings.reading_has_no_fault
+
+pub reading_is_unique : ReadingIsUnique
+reading_is_unique = readings.reading_is_unique
+
+-- and what is written reads back
+pub text_is_read_back : TextIsReadBack
+text_is_read_back = readings.text_is_read_back
+
+pub text_is_of_one_claim : TextIsOfOneClaim
+text_is_of_one_claim = readings.text_is_of_one_claim
+
+-- an accepted claim can be written as a trace
+pub accepted_fits_trace : AcceptedFitsTrace
+accepted_fits_trace = accepted.accepted_fits_trace
+
+pub accepted_text_fits : AcceptedTextFits
+accepted_text_fits = lengths.accepted_text_fits

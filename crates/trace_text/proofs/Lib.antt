@@ -15,3 +15,24 @@ pub mod Verdicts
 pub mod StepLoops
 pub mod StageLoops
 mod Worked
+mod LineNumbers
+mod LineReadings
+mod RawNumbers
+mod LinesLeft
+mod LinesBack
+mod ClaimLines
+mod LineBytes
+mod TraceReadings
+mod WrittenLines
+mod WordsLeft
+mod RowWords
+mod StepNumbers
+mod StepLines
+mod MatrixRows
+mod StepsRead
+mod RowPlaces
+mod ChainRead
+mod WorkedTexts
+mod TraceRead
+mod AcceptedTexts
+mod Lengths

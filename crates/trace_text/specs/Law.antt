@@ -1,6 +1,6 @@
 -- Laws over the definitions alone.
-use Rattle.std.specs.Prelude.{◌≡◌, ◌↔◌, ◌⊎◌, ℕ, ◌+◌, ◌≤◌, List, [], ◌∷◌, ◌++◌, length, All}
-use Rattle.pair_colours.specs.Colouring.{PairColouring, IsColouring, Refines, IsSamePartition}
+use Rattle.std.specs.Prelude.{◌≡◌, ◌↔◌, ◌⊎◌, ℕ, ◌+◌, ◌≤◌, List, [], ◌∷◌, ◌++◌, length, All, None, MatchOption}
+use Rattle.pair_colours.specs.Colouring.{PairColouring, IsColouring, IsRawColouring, Refines, IsSamePartition}
 use Rattle.pair_colours.specs.Closure.{Coherent, IsClosureOf}
 use Rattle.pair_colours.specs.Naming.{rank_of, IsNamedMeet}
 use Rattle.trace_text.specs.declared.check_words.CheckWord.{CheckWord}
@@ -12,6 +12,11 @@ use Rattle.trace_text.specs.Split.{later_keys, parted_by, key_in_class, key_of, 
 use Rattle.trace_text.specs.Parts.{keys_in, class_parted_by}
 use Rattle.trace_text.specs.Acceptance.{Accepts}
 use Rattle.trace_text.specs.BadLines.{IsFirstBadLine}
+use Rattle.trace_text.specs.declared.limits.TheConstants.{MOST_TRACE}
+use Rattle.trace_text.specs.Limits.{most_stages}
+use Rattle.trace_text.specs.TraceText.{trace_text}
+use Rattle.trace_text.specs.TraceFault.{trace_fault}
+use Rattle.trace_text.specs.ClaimTexts.{FitsTrace, IsTraceText}
 
 -- a split of a partition is a partition
 abbrev pub SplitIsPartition : Type 0
@@ -67,3 +72,34 @@ AcceptedHasNone = (claim : Claim) (line : ℕ) (word : CheckWord) → Accepts cl
 abbrev pub FirstBadLineIsUnique : Type 0
 FirstBadLineIsUnique = (claim : Claim) (line line2 : ℕ) (word word2 : CheckWord)
     → IsFirstBadLine claim line word → IsFirstBadLine claim line2 word2 → (line ≡ line2) × (word ≡ word2)
+
+-- where a text has no fault some claim is read, and where it has one there is none
+abbrev pub TraceReadsOrFails : Type 0
+TraceReadsOrFails = (text : List ℕ) → MatchOption (trace_fault text)
+    ((claim : Claim) × IsTraceText text claim)
+    (λ _. (claim : Claim) → ¬ IsTraceText text claim)
+
+-- a text that is read has no fault
+abbrev pub ReadingHasNoFault : Type 0
+ReadingHasNoFault = (text : List ℕ) (claim : Claim) → IsTraceText text claim → trace_fault text ≡ None
+
+-- a text is read as one claim at most
+abbrev pub ReadingIsUnique : Type 0
+ReadingIsUnique = (text : List ℕ) (claim other : Claim) → IsTraceText text claim → IsTraceText text other → claim ≡ other
+
+-- the text of a claim within the limits is read as that claim
+abbrev pub TextIsReadBack : Type 0
+TextIsReadBack = (claim : Claim) → FitsTrace claim → IsTraceText (trace_text claim) claim
+
+-- two claims with one text are equal
+abbrev pub TextIsOfOneClaim : Type 0
+TextIsOfOneClaim = (claim other : Claim) → FitsTrace claim → FitsTrace other → trace_text claim ≡ trace_text other → claim ≡ other
+
+-- an accepted claim of raw colourings is within the limits of a claim that is written
+abbrev pub AcceptedFitsTrace : Type 0
+AcceptedFitsTrace = (claim : Claim) → Accepts claim → All (λ stage. IsRawColouring stage.colours) claim.chain → FitsTrace claim
+
+-- and its text within that of a trace, where it does not have too many stages
+abbrev pub AcceptedTextFits : Type 0
+AcceptedTextFits = (claim : Claim) → Accepts claim → length claim.chain ≤ most_stages → All (λ stage. IsRawColouring stage.colours) claim.chain
+    → length (trace_text claim) ≤ MOST_TRACE

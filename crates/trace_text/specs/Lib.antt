@@ -6,3 +6,7 @@ pub mod Acceptance
 pub mod BadLines
 pub mod Law
 pub mod Limits
+pub mod TraceText
+pub mod ClaimTexts
+pub mod TraceFault
+pub mod Reading

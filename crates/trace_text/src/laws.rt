@@ -1,6 +1,6 @@
 //! Laws over the definitions alone. Each is the contract of a function that does nothing.
 
-ghost use Rattle.trace_text.specs.Law.{SplitIsPartition, SplitRefines, SplitRank, PartsOneClass, PartsTwoKeys, SplitKeepsCoherent, MeetIsNamedMeet, AcceptedIsClosure, ClosureOfMeet, StepsExist, VerdictExists, AcceptedHasNone, FirstBadLineIsUnique};
+ghost use Rattle.trace_text.specs.Law.{SplitIsPartition, SplitRefines, SplitRank, PartsOneClass, PartsTwoKeys, SplitKeepsCoherent, MeetIsNamedMeet, AcceptedIsClosure, ClosureOfMeet, StepsExist, VerdictExists, AcceptedHasNone, FirstBadLineIsUnique, TraceReadsOrFails, ReadingHasNoFault, ReadingIsUnique, TextIsReadBack, TextIsOfOneClaim, AcceptedFitsTrace, AcceptedTextFits};
 ghost use Rattle.trace_text.specs.Limits.{AreLimits};
 
 /// A split keeps every coherent refinement below it: a coherent colouring that refines a
@@ -20,9 +20,26 @@ pub fn l4()
     ensures { ClosureOfMeet }
 {}
 
+/// Each text is a trace of exactly one claim and has no fault, or has a fault and is a trace of none;
+/// and what is written of a claim reads back, so that two claims with one text are equal.
+pub fn l8()
+    ensures reads_or_fails { TraceReadsOrFails }
+    ensures no_fault { ReadingHasNoFault }
+    ensures unique { ReadingIsUnique }
+    ensures read_back { TextIsReadBack }
+    ensures one_claim { TextIsOfOneClaim }
+{}
+
 /// From every partition some steps lead, each by a split, to a coherent partition.
 pub fn l15()
     ensures { StepsExist }
+{}
+
+/// The text of an accepted claim is within the limits of a trace, where its colourings are raw and it
+/// has at most 257 stages.
+pub fn l16()
+    ensures numbers { AcceptedFitsTrace }
+    ensures bytes { AcceptedTextFits }
 {}
 
 /// A split of a partition is a partition that refines it, and has one class more for each key that

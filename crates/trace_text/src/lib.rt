@@ -7,6 +7,9 @@
 //! * `stage_list`: `Stage`, `Chain` and `Claim`, what a trace says.
 //! * `check_words`: why a claim is not accepted.
 //! * `limits`: how long a trace may be, and what a step may name.
+//! * `trace_faults`: what is wrong with a text that is no trace.
+//! * `trace_cursor`, `line_numbers`: the lines of a text that are left to read, and their numbers.
+//! * `reader`, `writer`: from the text of a claim to the claim, and back.
 //! * `laws`: what holds of the definitions alone.
 //!
 //! The definitions stand in `specs/`; docs/DEFINITIONS.md has them in words.
@@ -15,13 +18,21 @@
 mod check_words;
 pub mod laws;
 mod limits;
+mod line_numbers;
+mod reader;
 mod stage_list;
 mod step_list;
+mod trace_cursor;
+mod trace_faults;
+mod writer;
 
 pub use check_words::CheckWord;
 pub use limits::{MOST_STEP_NUMBER, MOST_TRACE};
+pub use reader::read_trace;
 pub use stage_list::{Chain, Claim, Stage};
 pub use step_list::{Step, Steps};
+pub use trace_faults::{TraceFault, TraceWord};
+pub use writer::write_trace;
 
 #[cfg(test)]
 mod tests;

@@ -1,0 +1,56 @@
+-- Texts that are written line by line.
+use Rattle.std.proofs.Common.{◌≡◌, ℕ, ◌+◌, ◌<◌, List, [], ◌∷◌, ◌++◌, length, map, take, get_or, refl, sym, ap, ◌∙◌, arith}
+use Rattle.std.specs.Prelude.{codes, decimal, slice_get, Some}
+use Rattle.std.specs.List.{flat_map}
+use Rattle.std.proofs.lemmas.List.{append_assoc, append-nil, take_more, map-append, take_all}
+use Rattle.std.proofs.lemmas.Option.{slice_get_within, get_or_from_slice_get}
+use Rattle.relation_text.specs.Written.{matrix_row, matrix_rows}
+use Rattle.pair_colours.specs.Colouring.{PairColouring, points}
+use Rattle.trace_text.specs.declared.step_list.Step.{Step}
+use Rattle.trace_text.specs.declared.stage_list.Stage.{Stage}
+use Rattle.trace_text.specs.declared.stage_list.Claim.{Claim}
+use Rattle.trace_text.specs.TraceText.{lines_text, step_line, matrix_lines, stage_lines, trace_lines, trace_text}
+
+pub lines_text-append : (xs ys : List (List ℕ)) → lines_text (xs ++ ys) ≡ lines_text xs ++ lines_text ys
+lines_text-append [] ys = refl
+lines_text-append (x ∷ xs) ys = ap (λ t. (x ++ codes "\n") ++ t) (lines_text-append xs ys) ∙ sym (append_assoc (x ++ codes "\n") (lines_text xs) (lines_text ys))
+
+rows_map : (C : PairColouring) (xs : List ℕ) → flat_map (λ x. matrix_row C x ++ codes "\n") xs ≡ lines_text (map (matrix_row C) xs)
+rows_map C [] = refl
+rows_map C (x ∷ xs) = ap (λ t. (matrix_row C x ++ codes "\n") ++ t) (rows_map C xs)
+
+pub rows_text : (C : PairColouring) → matrix_rows C ≡ lines_text (matrix_lines C)
+rows_text C = rows_map C (points C.size)
+
+-- more lines after a text
+pub text_more : (start old new : List ℕ) (lines next : List (List ℕ)) → old ≡ start ++ lines_text lines → new ≡ old ++ lines_text next → new ≡ start ++ lines_text (lines ++ next)
+text_more start old new lines next before after =
+    after ∙ ap (λ t. t ++ lines_text next) before ∙ append_assoc start (lines_text lines) (lines_text next) ∙ ap (λ t. start ++ t) (sym (lines_text-append lines next))
+
+-- one more step
+pub step_more : (start old new : List ℕ) (steps : List Step) (place : ℕ) (s : Step) → old ≡ start ++ lines_text (map step_line (take place steps))
+    → slice_get steps place ≡ Some s → new ≡ old ++ lines_text (step_line s ∷ []) → new ≡ start ++ lines_text (map step_line (take (place + 1) steps))
+step_more start old new steps place s before is after =
+    let more : take (place + 1) steps ≡ take place steps ++ s ∷ [] = take_more steps place s (slice_get_within steps place s is) ∙ ap (λ t. take place steps ++ t ∷ []) (get_or_from_slice_get steps place s s is) in
+    text_more start old new (map step_line (take place steps)) (step_line s ∷ []) before after
+    ∙ ap (λ l. start ++ lines_text l) (sym (ap (map step_line) more ∙ map-append step_line (take place steps) (s ∷ [])))
+
+-- a whole stage
+pub stage_text : (old t1 t2 t3 : List ℕ) (s : Stage) → t1 ≡ old ++ codes "stage\n" → t2 ≡ t1 ++ matrix_rows s.colours → t3 ≡ t2 ++ lines_text (map step_line s.steps) → t3 ≡ old ++ lines_text (stage_lines s)
+stage_text old t1 t2 t3 s a b c =
+    text_more old t2 t3 (codes "stage" ∷ matrix_lines s.colours) (map step_line s.steps)
+    (text_more old t1 t2 (codes "stage" ∷ []) (matrix_lines s.colours) a (b ∙ ap (λ t. t1 ++ t) (rows_text s.colours))) c
+
+-- a whole trace
+pub whole_text : (t0 t1 t2 t3 t4 t5 : List ℕ) (claim : Claim) → t0 ≡ codes "trace 1\npoints " ++ decimal claim.closure.size → t1 ≡ t0 ++ codes "\n" → t2 ≡ t1 ++ lines_text (flat_map stage_lines claim.chain)
+    → t3 ≡ t2 ++ codes "closure\n" → t4 ≡ t3 ++ matrix_rows claim.closure → t5 ≡ t4 ++ codes "end\n" → t5 ≡ trace_text claim
+whole_text t0 t1 t2 t3 t4 t5 claim a b c d e f =
+    let head = codes "trace 1" ∷ (codes "points " ++ decimal claim.closure.size) ∷ [] in
+    let chain = flat_map stage_lines claim.chain in
+    let rows = matrix_lines claim.closure in
+    let first : t1 ≡ [] ++ lines_text head = b ∙ ap (λ t. t ++ codes "\n") a ∙ sym (ap (λ t. codes "trace 1\npoints " ++ t) (append-nil (decimal claim.closure.size ++ codes "\n"))) in
+    let second = text_more [] t1 t2 head chain first c in
+    let third = text_more [] t2 t3 (head ++ chain) (codes "closure" ∷ []) second d in
+    let fourth = text_more [] t3 t4 ((head ++ chain) ++ codes "closure" ∷ []) rows third (e ∙ ap (λ t. t3 ++ t) (rows_text claim.closure)) in
+    let fifth = text_more [] t4 t5 (((head ++ chain) ++ codes "closure" ∷ []) ++ rows) (codes "end" ∷ []) fourth f in
+    fifth ∙ ap (λ l. lines_text (l ++ (codes "end" ∷ []))) (append_assoc (head ++ chain) (codes "closure" ∷ []) rows)

@@ -1,0 +1,114 @@
+-- The first line of a text that may not stand in its place in a trace.
+use Rattle.std.specs.Prelude.{ℕ, suc, zero, ◌+◌, ◌==◌, ◌&&◌, ◌||◌, nat_le, Bool, false, List, [], ◌∷◌, length, map, codes, bytes_eq, Option, None, Some, unwrap_or, is_some, drop, nat_eq, if◌then◌else◌}
+use Rattle.std.specs.List.{slice_split, list_all, starts_with}
+use Rattle.text_lines.specs.Lines.{lines_of}
+use Rattle.text_lines.specs.Number.{number_of}
+use Rattle.pair_colours.specs.declared.coloured_pairs.TheConstants.{MOST_COLOUR, MOST_POINTS}
+use Rattle.trace_text.specs.declared.limits.TheConstants.{MOST_STEP_NUMBER}
+use Rattle.trace_text.specs.declared.trace_faults.TraceWord.{TraceWord}
+use Rattle.trace_text.specs.declared.trace_faults.TraceWord.TheVariants.{Head, Points, Stage, Row, Body, End, Extra}
+
+-- what is expected: the first line, the number of points, the first stage; then, for n points,
+-- a row of a stage or of the closure, after which so many more are to come; a step, a stage or the closure; the last line; nothing
+pub data Place : Type 0 where
+  at_head : Place
+  at_points : Place
+  at_stage : ℕ → Place
+  at_row : ℕ → ℕ → Place
+  at_body : ℕ → Place
+  at_closure_row : ℕ → ℕ → Place
+  at_end : Place
+  at_extra : Place
+
+-- the word for what is expected
+abbrev pub word_at : Place → TraceWord
+word_at at_head = Head
+word_at at_points = Points
+word_at (at_stage n) = Stage
+word_at (at_row n more) = Row
+word_at (at_body n) = Body
+word_at (at_closure_row n more) = Row
+word_at at_end = End
+word_at at_extra = Extra
+
+-- the words of a line between single spaces
+abbrev pub between_spaces : List ℕ → List (List ℕ)
+between_spaces line = slice_split (λ b. b == 32) line
+
+-- a word in the number form that is no greater than the limit
+abbrev pub is_number_to : ℕ → List ℕ → Bool
+is_number_to limit word = is_some (number_of word) && nat_le (unwrap_or (number_of word) 0) limit
+
+-- so many such numbers
+abbrev pub are_numbers : ℕ → ℕ → List (List ℕ) → Bool
+are_numbers limit n words = (length words == n) && list_all (is_number_to limit) words
+
+-- a row of n raw colours
+abbrev pub is_row_line : ℕ → List ℕ → Bool
+is_row_line n line = are_numbers MOST_COLOUR n (between_spaces line)
+
+-- a letter, and so many numbers
+abbrev pub is_lettered : List ℕ → ℕ → List (List ℕ) → Bool
+is_lettered letter n [] = false
+is_lettered letter n (word ∷ words) = bytes_eq word letter && are_numbers MOST_STEP_NUMBER n words
+
+-- a step line
+abbrev pub is_step_line : List ℕ → Bool
+is_step_line line =
+    let words = between_spaces line in
+    is_lettered (codes "D") 1 words || is_lettered (codes "F") 2 words || is_lettered (codes "T") 3 words
+
+-- `points` and a number of points
+abbrev pub points_on : List ℕ → Option ℕ
+points_on line =
+    if starts_with nat_eq line (codes "points ") && is_some (number_of (drop 7 line))
+    && nat_le 1 (unwrap_or (number_of (drop 7 line)) 0) && nat_le (unwrap_or (number_of (drop 7 line)) 0) MOST_POINTS
+    then number_of (drop 7 line) else None
+
+-- what is expected where so many rows of a stage are to come
+abbrev pub next_row : ℕ → ℕ → Place
+next_row n zero = at_body n
+next_row n (suc more) = at_row n more
+
+-- and of the closure
+abbrev pub next_closure_row : ℕ → ℕ → Place
+next_closure_row n zero = at_end
+next_closure_row n (suc more) = at_closure_row n more
+
+-- the first stage is expected after the number of points
+abbrev pub sized : Option ℕ → Option Place
+sized None = None
+sized (Some n) = Some (at_stage n)
+
+-- what is expected after this line, if the line may stand there
+abbrev pub next_place : Place → List ℕ → Option Place
+next_place at_head line = if bytes_eq line (codes "trace 1") then Some at_points else None
+next_place at_points line = sized (points_on line)
+next_place (at_stage n) line = if bytes_eq line (codes "stage") then Some (next_row n n) else None
+next_place (at_row n more) line = if is_row_line n line then Some (next_row n more) else None
+next_place (at_body n) line =
+    if bytes_eq line (codes "stage") then Some (next_row n n)
+    else (if bytes_eq line (codes "closure") then Some (next_closure_row n n)
+    else (if is_step_line line then Some (at_body n) else None))
+next_place (at_closure_row n more) line = if is_row_line n line then Some (next_closure_row n more) else None
+next_place at_end line = if bytes_eq line (codes "end") then Some at_extra else None
+next_place at_extra line = None
+
+-- the fault of a text that ends here: it is on the line after its last
+abbrev pub fault_at_end : ℕ → Place → Option (ℕ × TraceWord)
+fault_at_end line at_extra = None
+fault_at_end line place = Some (line, word_at place)
+
+-- the fault of a line that may not stand in its place, or one of those after it
+abbrev pub fault_on : ℕ → Place → Option Place → (Place → Option (ℕ × TraceWord)) → Option (ℕ × TraceWord)
+fault_on line place None later = Some (line, word_at place)
+fault_on line place (Some next) later = later next
+
+-- the first of the lines from here on that may not stand in its place, with the word for what was expected
+abbrev pub fault_from : ℕ → Place → List (List ℕ) → Option (ℕ × TraceWord)
+fault_from line place [] = fault_at_end line place
+fault_from line place (bytes ∷ rest) = fault_on line place (next_place place bytes) (λ next. fault_from (line + 1) next rest)
+
+-- the fault of a text, if it is no trace
+abbrev pub trace_fault : List ℕ → Option (ℕ × TraceWord)
+trace_fault text = fault_from 1 at_head (map (λ part. part.bytes) (lines_of text))

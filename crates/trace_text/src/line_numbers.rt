@@ -1,0 +1,121 @@
+//! The numbers on a line.
+
+ghost use Rattle.std.specs.Prelude.{◌≡◌, ℕ, ◌+◌, ◌*◌, ◌<◌, ◌≤◌, ◌==◌, ◌++◌, ◌∷◌, [], Some, true, false, MatchOption, length, map, take, unwrap_or};
+ghost use Rattle.std.specs.List.{position_or_len};
+ghost use Rattle.text_lines.specs.Number.{number_of};
+ghost use Rattle.pair_colours.specs.Colouring.{IsColouring};
+ghost use Rattle.trace_text.specs.TraceFault.{are_numbers, between_spaces, is_number_to, is_row_line, is_step_line};
+ghost use Rattle.trace_text.specs.TraceText.{step_line};
+ghost use Rattle.trace_text.specs.ClaimTexts.{IsTraceStep};
+ghost use Rattle.trace_text.specs.Reading.{numbers_on, words_left};
+
+use crate::limits::MOST_STEP_NUMBER;
+use crate::step_list::Step;
+use pair_colours::{Colouring, MOST_COLOUR};
+use text_lines::read_number;
+
+// The number that a word is, if it is no greater than the limit.
+fn number_to(word: &[u8], limit: u32) -> Option<u32>
+    ensures { MatchOption result (is_number_to limit word.now ≡ false) (λ n. (is_number_to limit word.now ≡ true) × (number_of word.now ≡ Some n)) }
+{
+    match read_number(word) {
+        Some(number) if number <= limit => Some(number),
+        _ => None,
+    }
+}
+
+// The bytes before the first space, and those after it, if there is one.
+fn cut_word(line: &[u8]) -> (&[u8], Option<&[u8]>)
+    ensures { between_spaces line.now ≡ result.0.now ∷ words_left result.1 }
+{
+    let end = word_len(line);
+    let (word, rest) = line.split_at(end);
+    match rest {
+        [_, after @ ..] => (word, Some(after)),
+        [] => (word, None),
+    }
+}
+
+// How many bytes come before the first space.
+fn word_len(line: &[u8]) -> usize
+    ensures len { result ≡ position_or_len (λ b. b == 32) line.now }
+    ensures within { result ≤ length line.now }
+{
+    line.iter().position(|b| *b == b' ').unwrap_or(line.len())
+}
+
+// Reads row x, if the line is a row. If it is not, some of its colours may have been read.
+pub(crate) fn read_row(colouring: &mut Colouring, x: u32, line: &[u8]) -> bool
+    requires row { x < colouring.old.size }
+    requires colouring { IsColouring colouring.old }
+    ensures test { result ≡ is_row_line colouring.old.size line.now }
+    ensures points { colouring.new.size ≡ colouring.old.size }
+    ensures colouring { IsColouring colouring.new }
+    ensures row { result ≡ true → take (x * colouring.old.size + colouring.old.size) colouring.new.colours ≡ take (x * colouring.old.size) colouring.old.colours ++ numbers_on line.now }
+{
+    let mut rest = Some(line);
+    for y in 0..colouring.size() {
+        let Some(bytes) = rest else {
+            return false;
+        };
+        let (word, after) = cut_word(bytes);
+        let Some(colour) = number_to(word, MOST_COLOUR) else {
+            return false;
+        };
+        colouring.set(x, y, colour);
+        rest = after;
+    }
+    rest.is_none()
+}
+
+// The step that a line is, if it is one.
+pub(crate) fn read_step(line: &[u8]) -> Option<Step>
+    ensures { MatchOption result (is_step_line line.now ≡ false) (λ s. (line.now ≡ step_line s) × IsTraceStep s) }
+{
+    let (letter, rest) = cut_word(line);
+    if letter == b"D".as_slice() {
+        let numbers = step_numbers(rest, 1)?;
+        return Some(Step::Diag { class: numbers[0] });
+    }
+    if letter == b"F".as_slice() {
+        let numbers = step_numbers(rest, 2)?;
+        return Some(Step::Flip {
+            class: numbers[0],
+            other: numbers[1],
+        });
+    }
+    if letter == b"T".as_slice() {
+        let numbers = step_numbers(rest, 3)?;
+        return Some(Step::Tri {
+            class: numbers[0],
+            left: numbers[1],
+            right: numbers[2],
+        });
+    }
+    None
+}
+
+// So many numbers of a step line, if nothing else is left.
+fn step_numbers(rest: Option<&[u8]>, count: u32) -> Option<[u32; 3]>
+    requires { count ≤ 3 }
+    ensures { MatchOption result (are_numbers MOST_STEP_NUMBER count (words_left rest.entry) ≡ false)
+        (λ numbers. (are_numbers MOST_STEP_NUMBER count (words_left rest.entry) ≡ true) × (take count numbers ≡ map (λ word. unwrap_or (number_of word) 0) (words_left rest.entry))) }
+{
+    let mut numbers = [0; 3];
+    let mut left = rest;
+    for place in 0..count {
+        let Some(bytes) = left else {
+            return None;
+        };
+        let (word, after) = cut_word(bytes);
+        let Some(number) = number_to(word, MOST_STEP_NUMBER) else {
+            return None;
+        };
+        numbers[place as usize] = number;
+        left = after;
+    }
+    match left {
+        Some(_more) => None,
+        None => Some(numbers),
+    }
+}

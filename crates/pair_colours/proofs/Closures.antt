@@ -4,7 +4,7 @@ use Rattle.std.proofs.lemmas.Bool.{eq-eqb, eqb-true}
 use Rattle.std.proofs.lemmas.List.{length-map, get_or-map, get_or_default}
 use Rattle.std.proofs.lemmas.List.Folds.{Any-from_list_any}
 use Rattle.pair_colours.specs.Colouring.{PairColouring, IsColouring, IsColour, Refines, colour_at}
-use Rattle.pair_colours.specs.Closure.{Coherent, IsClosure, IsClosureOf}
+use Rattle.pair_colours.specs.Closure.{Coherent, IsClosure, IsClosureOf, ClosureIsUnique, NamedClosureExists, NamedClosureIsUnique}
 use Rattle.pair_colours.specs.Naming.{walk, colours_met, name_of, named_of}
 use Rattle.pair_colours.specs.Rounds.{Alike}
 use Rattle.pair_colours.proofs.ListLemmas.{list_any-map}
@@ -86,13 +86,13 @@ IsClosureOf-named_of K C k = record {
 }
 
 -- two closures have one naming
-pub closure_is_unique : (C K L : PairColouring) → IsColouring C → IsClosure K C → IsClosure L C → named_of K ≡ named_of L
+pub closure_is_unique : ClosureIsUnique
 closure_is_unique C K L _ k l =
     named_of-same K L k.colouring l.colouring (l.coarsest K k.colouring k.coherent k.refines) (k.coarsest L l.colouring l.coherent l.refines)
 
-pub named_closure_exists : (C : PairColouring) → IsColouring C → (K : PairColouring) × IsClosureOf K C
+pub named_closure_exists : NamedClosureExists
 named_closure_exists C c = let k = closure_exists C c in (named_of k.0, IsClosureOf-named_of k.0 C k.1)
 
 -- and the closure is one
-pub named_closure_is_unique : (C K L : PairColouring) → IsColouring C → IsClosureOf K C → IsClosureOf L C → K ≡ L
+pub named_closure_is_unique : NamedClosureIsUnique
 named_closure_is_unique C K L c k l = sym k.named ∙ closure_is_unique C K L c k.closure l.closure ∙ l.named

@@ -6,7 +6,7 @@ use Rattle.std.proofs.lemmas.List.{get_or_default}
 use Rattle.std.proofs.lemmas.List.Elements.{All-from_get_or}
 use Rattle.std.proofs.lemmas.List.Folds.{list_any_at, Any-from_list_any}
 use Rattle.pair_colours.specs.Colouring.{PairColouring, IsColouring, IsColour, colour_at}
-use Rattle.pair_colours.specs.ColourSets.{is_in, IsColourSet, IsEdgeSet}
+use Rattle.pair_colours.specs.ColourSets.{is_in, IsColourSet, ColourSetOrNot, EdgeSetOrNot}
 use Rattle.pair_colours.proofs.Places.{place_below}
 use Rattle.pair_colours.proofs.ListReads.{IsColour-at}
 use Rattle.pair_colours.proofs.Reaching.{all_below}
@@ -52,7 +52,7 @@ colour_or_not C h c = ⊎_elim
     (λ f. inr (λ u. both_ways (is_in C.colours c) f (is_in-colour C h c u)))
     (cases_Bool (is_in C.colours c))
 
-pub colour_set_or_not : (C : PairColouring) → IsColouring C → (set : List ℕ) → IsColourSet C set ⊎ ¬ IsColourSet C set
+pub colour_set_or_not : ColourSetOrNot
 colour_set_or_not C h set = ⊎_elim
     (λ all. inl (All-from_get_or (IsColour C) set 0 all))
     (λ not. inr (λ all. not (λ k l. all k 0 l)))
@@ -62,22 +62,29 @@ false_or_not : (b : Bool) → (b ≡ false) ⊎ ¬ (b ≡ false)
 false_or_not true = inr (λ e. cc)
 false_or_not false = inl refl
 
-implies_or_not : (a b : Bool) → (a ≡ true → b ≡ true) ⊎ ¬ (a ≡ true → b ≡ true)
+pub implies_or_not : (a b : Bool) → (a ≡ true → b ≡ true) ⊎ ¬ (a ≡ true → b ≡ true)
 implies_or_not true true = inl (λ e. refl)
 implies_or_not true false = inr (λ h. let e : false ≡ true = h refl in cc)
 implies_or_not false b = inl (λ e. absurd cc)
 
-pub edge_set_or_not : (C : PairColouring) → IsColouring C → (set : List ℕ) → IsEdgeSet C set ⊎ ¬ IsEdgeSet C set
+pub symmetric_or_not : (C : PairColouring) (test : ℕ → Bool) → IsSymmetric C test ⊎ ¬ IsSymmetric C test
+symmetric_or_not C test =
+    ⊎_elim
+    (λ symmetric. inl (λ x y hx hy e. symmetric x hx y hy e))
+    (λ no. inr (λ symmetric. no (λ x hx y hy e. symmetric x y hx hy e)))
+    (all_below (λ x. (y : ℕ) → y < C.size → test (colour_at C x y) ≡ true → test (colour_at C y x) ≡ true) C.size
+    (λ x _. all_below (λ y. test (colour_at C x y) ≡ true → test (colour_at C y x) ≡ true) C.size
+    (λ y _. implies_or_not (test (colour_at C x y)) (test (colour_at C y x)))))
+
+pub edge_set_or_not : EdgeSetOrNot
 edge_set_or_not C is set =
     ⊎_elim
     (λ colours. ⊎_elim
     (λ loopless. ⊎_elim
-    (λ symmetric. inl (record { colours = colours; loopless = loopless; symmetric = λ x y hx hy e. symmetric x hx y hy e }))
-    (λ no. inr (λ edges. no (λ x hx y hy e. edges.symmetric x y hx hy e)))
-    (all_below (λ x. (y : ℕ) → y < C.size → is_in set (colour_at C x y) ≡ true → is_in set (colour_at C y x) ≡ true) C.size
-    (λ x hx. all_below (λ y. is_in set (colour_at C x y) ≡ true → is_in set (colour_at C y x) ≡ true) C.size
-    (λ y hy. implies_or_not (is_in set (colour_at C x y)) (is_in set (colour_at C y x))))))
+    (λ symmetric. inl (record { colours = colours; loopless = loopless; symmetric = symmetric }))
+    (λ no. inr (λ edges. no edges.symmetric))
+    (symmetric_or_not C (is_in set)))
     (λ no. inr (λ edges. no edges.loopless))
-    (all_below (λ x. is_in set (colour_at C x x) ≡ false) C.size (λ x hx. false_or_not (is_in set (colour_at C x x)))))
+    (all_below (λ x. is_in set (colour_at C x x) ≡ false) C.size (λ x _. false_or_not (is_in set (colour_at C x x)))))
     (λ no. inr (λ edges. no edges.colours))
     (colour_set_or_not C is set)

@@ -1,28 +1,22 @@
-use Rattle.std.proofs.Common.{◌≡◌, ◌==◌, ◌+◌, ◌<◌, ℕ, Bool, true, false, not, cond, List, [], ◌∷◌, ◌++◌, ◌||◌, length, get_or, map, filter, take, drop, find, Option, None, Some, refl, sym, ap, ◌∙◌, arith}
+use Rattle.std.proofs.Common.{◌≡◌, ◌==◌, ◌+◌, ◌<◌, ℕ, Bool, true, false, not, cond, List, [], ◌∷◌, ◌++◌, ◌||◌, length, get_or, map, filter, take, drop, find, Option, None, Some, slice_get, refl, sym, ap, ◌∙◌, arith}
+use Rattle.std.specs.Option.{option_or}
 use Rattle.std.specs.List.{flat_map, list_any}
 use Rattle.std.proofs.lemmas.Bool.{eq-eqb, ne_eqb}
 use Rattle.std.proofs.lemmas.List.{append_assoc, append-nil, map-append, take-append-drop, drop_more, map-id}
 use Rattle.std.proofs.lemmas.List.Elements.{filter-append}
+use Rattle.std.proofs.lemmas.List.Folds.{find-append}
 use Rattle.std.proofs.lemmas.List.FromFn.{take-map-range_with_len, get_or-range_with_len, length-range_with_len}
 use Rattle.std.proofs.lemmas.Grind.{flat_map-append}
 use Rattle.pair_colours.specs.Colouring.{PairColouring, IsColour, colour_at, points}
 use Rattle.pair_colours.specs.Naming.{row_of, walk}
 use Rattle.pair_colours.proofs.Walked.{diagonal_to, rows_to, row_to, row_to_more}
 use Rattle.pair_colours.proofs.Counts.{points_more}
+use Rattle.pair_colours.proofs.ListLemmas.{take_more_at, cut_at}
 use Rattle.pair_colours.proofs.Names.{list_any-walk}
 
 -- the first pair of a colour in a part of the walk
 abbrev pub first_on : PairColouring → ℕ → List (ℕ × ℕ) → Option (ℕ × ℕ)
 first_on A c ps = find (λ p. colour_at A p.0 p.1 == c) ps
-
--- what a search finds is not before the end of a part that has none
-find-append_none : {X : Type 0} (p : X → Bool) (xs ys : List X) → find p xs ≡ None → find p (xs ++ ys) ≡ find p ys
-find-append_none p [] ys h = refl
-find-append_none {X} p (x ∷ xs) ys h = by (p x) refl (find-append_none p xs ys)
-  where
-    by : (b : Bool) → p x ≡ b → (find p xs ≡ None → find p (xs ++ ys) ≡ find p ys) → cond (p x) (Some x) (find p (xs ++ ys)) ≡ find p ys
-    by true e again = let z : Some x ≡ None = sym (ap (λ b. cond b (Some x) (find p xs)) e) ∙ h in cc
-    by false e again = ap (λ b. cond b (Some x) (find p (xs ++ ys))) e ∙ again (sym (ap (λ b. cond b (Some x) (find p xs)) e) ∙ h)
 
 list_any-from_find : {X : Type 0} (p : X → Bool) (xs : List X) → find p xs ≡ None → list_any p xs ≡ false
 list_any-from_find p [] h = refl
@@ -32,11 +26,28 @@ list_any-from_find {X} p (x ∷ xs) h = by (p x) refl (list_any-from_find p xs)
     by true e again = let z : Some x ≡ None = sym (ap (λ b. cond b (Some x) (find p xs)) e) ∙ h in cc
     by false e again = ap (λ b. b || list_any p xs) e ∙ again (sym (ap (λ b. cond b (Some x) (find p xs)) e) ∙ h)
 
-pub find_here : {X : Type 0} (p : X → Bool) (xs : List X) (x : X) (ys all : List X) → find p xs ≡ None → p x ≡ true → all ≡ xs ++ x ∷ ys → find p all ≡ Some x
-find_here p xs x ys all h t e = ap (find p) e ∙ find-append_none p xs (x ∷ ys) h ∙ ap (λ b. cond b (Some x) (find p ys)) t
+-- a loop over the places of the walk finds the pair at a place, or goes on
+pub first_found : (A : PairColouring) (c n k : ℕ) (p : ℕ × ℕ) → n ≡ A.size → first_on A c (take k (walk A.size)) ≡ None → slice_get (walk n) k ≡ Some p → colour_at A p.0 p.1 ≡ c
+    → Some p ≡ first_on A c (walk A.size)
+first_found A c n k p size h at is =
+    let test : ℕ × ℕ → Bool = λ q. colour_at A q.0 q.1 == c in
+    let front = take k (walk A.size) in
+    let rest = drop (k + 1) (walk A.size) in
+    sym
+    (ap (find test) (cut_at (walk A.size) k p (ap (λ m. slice_get (walk m) k) (sym size) ∙ at))
+    ∙ find-append test front (p ∷ rest)
+    ∙ ap (λ o. option_or o (find test (p ∷ rest))) h
+    ∙ ap (λ b. cond b (Some p) (find test rest)) (eq-eqb (colour_at A p.0 p.1) c is))
 
-pub find_not_here : {X : Type 0} (p : X → Bool) (xs : List X) (x : X) → find p xs ≡ None → p x ≡ false → find p (xs ++ x ∷ []) ≡ None
-find_not_here p xs x h t = find-append_none p xs (x ∷ []) h ∙ ap (λ b. cond b (Some x) None) t
+pub first_later : (A : PairColouring) (c n k : ℕ) (p : ℕ × ℕ) → n ≡ A.size → first_on A c (take k (walk A.size)) ≡ None → slice_get (walk n) k ≡ Some p → (colour_at A p.0 p.1 ≡ c → ⊥)
+    → first_on A c (take (k + 1) (walk A.size)) ≡ None
+first_later A c n k p size h at ne =
+    let test : ℕ × ℕ → Bool = λ q. colour_at A q.0 q.1 == c in
+    let front = take k (walk A.size) in
+    ap (find test) (take_more_at (walk A.size) k p (ap (λ m. slice_get (walk m) k) (sym size) ∙ at))
+    ∙ find-append test front (p ∷ [])
+    ∙ ap (λ o. option_or o (find test (p ∷ []))) h
+    ∙ ap (λ b. cond b (Some p) None) (ne_eqb (colour_at A p.0 p.1) c ne)
 
 -- the points, cut at one of them
 points_cut : (n x : ℕ) → x < n → points n ≡ points x ++ x ∷ drop (x + 1) (points n)

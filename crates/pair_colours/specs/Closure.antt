@@ -1,6 +1,6 @@
 -- Coherent configurations, and the closure of a colouring.
 use Rattle.std.specs.Prelude.{◌≡◌, ℕ, ◌<◌}
-use Rattle.pair_colours.specs.Colouring.{PairColouring, IsColouring, Refines, colour_at, triangles}
+use Rattle.pair_colours.specs.Colouring.{PairColouring, IsColouring, IsRawColouring, Refines, colour_at, triangles}
 use Rattle.pair_colours.specs.Naming.{named_of}
 
 -- Higman's axioms: no class holds both a diagonal and an off-diagonal pair; the transpose of a class is a class;
@@ -40,3 +40,7 @@ NamedClosureExists = (C : PairColouring) → IsColouring C → (K : PairColourin
 
 abbrev pub NamedClosureIsUnique : Type 0
 NamedClosureIsUnique = (C K L : PairColouring) → IsColouring C → IsClosureOf K C → IsClosureOf L C → K ≡ L
+
+-- the closure of a colouring within the limits of points and of raw colours is within them too
+abbrev pub ClosureIsRaw : Type 0
+ClosureIsRaw = (C K : PairColouring) → IsRawColouring C → IsClosureOf K C → IsRawColouring K

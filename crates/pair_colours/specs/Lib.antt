@@ -3,8 +3,11 @@ pub mod Naming
 pub mod Closure
 pub mod Rounds
 pub mod IntersectionNumber
-pub mod ClosedSet
 pub mod Lists
 pub mod SideCodes
 pub mod ColourSets
+pub mod Those
+pub mod Subsets
+pub mod ClosedSet
 pub mod Tests
+pub mod Limits

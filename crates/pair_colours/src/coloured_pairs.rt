@@ -1,9 +1,11 @@
 //! A colouring gives each ordered pair of points a number.
 
-ghost use Rattle.std.specs.Prelude.{◌≡◌, ◌≢◌, ℕ, ◌+◌, ◌*◌, ◌^◌, ◌<◌, ◌≤◌, ◌↔◌, IsTrue, IfOk, IfSome, IfNone, replicate, slice_set, length};
+ghost use Rattle.std.specs.Prelude.{◌≡◌, ◌≢◌, ◌==◌, ℕ, ◌+◌, ◌*◌, ◌^◌, ◌++◌, ◌<◌, ◌≤◌, ◌↔◌, All, IsTrue, OnOk, IfOk, IfSome, IfNone, replicate, slice_get, slice_index, slice_set, length, flat_map};
+ghost use Rattle.std.specs.List.{list_all};
 ghost use Rattle.pair_colours.specs.Colouring.{FitsColouring, IsColour, Refines, colour_at};
 ghost use Rattle.pair_colours.specs.Naming.{colours_met, named_of, rank_of, first_pair_of, transpose_of, IsNamedMeet};
 
+use crate::naming_walk::pair_on_walk;
 use crate::no_memory::NoMemory;
 use crate::numbering::{determines, numbers_of, paired};
 use indexmap::IndexSet;
@@ -33,6 +35,27 @@ impl Model for Colouring {
     ghost invariant = { λ c. FitsColouring (record { size = c.size; colours = c.colours.items }) };
 }
 
+// Puts the numbers of a row at the end of a list.
+fn put_row(numbers: &mut Vec<u32>, row: &[u32]) -> Result<(), NoMemory>
+    ensures items { OnOk result (numbers.new.items ≡ numbers.old.items ++ row.now) }
+    ensures small { OnOk result (All (λ number. number < 2 ^ 32) row.now) }
+{
+    numbers.extend_from_slice(row)?;
+    Ok(())
+}
+
+// The rows as one list.
+fn joined(alloc: Global, rows: &[&[u32]]) -> Result<Vec<u32>, NoMemory>
+    ensures rows { IfOk result (λ numbers. numbers.items ≡ flat_map (λ row. row.now) rows.now) }
+    ensures small { IfOk result (λ numbers. All (λ number. number < 2 ^ 32) numbers.items) }
+{
+    let mut numbers = Vec::new(alloc);
+    for row in rows {
+        put_row(&mut numbers, row)?;
+    }
+    Ok(numbers)
+}
+
 impl Colouring {
     /// Gives every pair the colour `fill`.
     pub fn new(alloc: Global, size: u32, fill: u32) -> Result<Colouring, NoMemory>
@@ -43,6 +66,24 @@ impl Colouring {
     {
         let colours = vec![in alloc; fill; (size * size) as usize]?;
         Ok(Colouring { size, colours })
+    }
+
+    /// The colouring with these rows: row x has the colours of (x, 0), (x, 1) and so on. There are as
+    /// many rows as points, each with a colour for every point.
+    pub fn from_rows(alloc: Global, rows: &[&[u32]]) -> Result<Colouring, NoMemory>
+        requires has_points { 1 ≤ length rows.now }
+        requires limit { length rows.now ≤ MOST_POINTS }
+        requires square { IsTrue (list_all (λ row. length row.now == length rows.now) rows.now) }
+        ensures points { IfOk result (λ c. c.size ≡ length rows.now) }
+        ensures rows { IfOk result (λ c. c.colours ≡ flat_map (λ row. row.now) rows.now) }
+        ensures pairs { IfOk result (λ c. (x y : ℕ) → x < c.size → y < c.size
+            → IfSome (slice_get rows.now x) (λ row. colour_at c x y ≡ slice_index row.now y)) }
+    {
+        let colours = joined(alloc, rows)?;
+        Ok(Colouring {
+            size: rows.len() as u32,
+            colours,
+        })
     }
 
     /// The number of points.
@@ -101,15 +142,9 @@ impl Colouring {
         ensures few { IfOk result (λ met. length met.keys < 2 ^ 32) }
     {
         let mut met = IndexSet::new(alloc);
-        for x in 0..self.size {
-            met.insert(self.get(x, x))?;
-        }
-        for x in 0..self.size {
-            for y in 0..self.size {
-                if x != y {
-                    met.insert(self.get(x, y))?;
-                }
-            }
+        for place in 0..self.size * self.size {
+            let (x, y) = pair_on_walk(self.size, place);
+            met.insert(self.get(x, y))?;
         }
         Ok(met)
     }
@@ -158,16 +193,10 @@ impl Colouring {
         ensures colour { IfSome result (λ p. colour_at self.now p.0 p.1 ≡ colour) }
         ensures none { IfNone result (¬ IsColour self.now colour) }
     {
-        for x in 0..self.size {
-            if self.get(x, x) == colour {
-                return Some((x, x));
-            }
-        }
-        for x in 0..self.size {
-            for y in 0..self.size {
-                if x != y && self.get(x, y) == colour {
-                    return Some((x, y));
-                }
+        for place in 0..self.size * self.size {
+            let (x, y) = pair_on_walk(self.size, place);
+            if self.get(x, y) == colour {
+                return Some((x, y));
             }
         }
         None

@@ -1,6 +1,10 @@
 //! Laws over the definitions alone. Each is the contract of a function that does nothing.
 
-ghost use Rattle.pair_colours.specs.Closure.{ClosureExists, ClosureIsUnique, NamedClosureExists, NamedClosureIsUnique};
+ghost use Rattle.pair_colours.specs.Closure.{ClosureExists, ClosureIsUnique, NamedClosureExists, NamedClosureIsUnique, ClosureIsRaw};
+ghost use Rattle.pair_colours.specs.ClosedSet.{ClosedSetsExist, ClosedSetsAreUnique};
+ghost use Rattle.pair_colours.specs.ColourSets.{ColourSetOrNot, EdgeSetOrNot};
+ghost use Rattle.pair_colours.specs.Limits.{AreLimits};
+ghost use Rattle.pair_colours.specs.Subsets.{SubsetsAreAll};
 
 /// Every colouring has a closure, and all its closures have one naming. So every colouring has
 /// exactly one closure that is canonically named.
@@ -9,4 +13,32 @@ pub fn l1()
     ensures unique { ClosureIsUnique }
     ensures named_exists { NamedClosureExists }
     ensures named_unique { NamedClosureIsUnique }
+{}
+
+/// The closure of a raw colouring is a raw colouring: it has as many points, and its names are fewer
+/// than the raw colours.
+pub fn closure_is_raw()
+    ensures { ClosureIsRaw }
+{}
+
+/// Every list of numbers is a set of colours or not, and an edge set or not.
+pub fn set_or_not()
+    ensures colours { ColourSetOrNot }
+    ensures edges { EdgeSetOrNot }
+{}
+
+/// The list of the sets of numbers below a bound has each of them, in the order of their bit numbers.
+pub fn subsets()
+    ensures { SubsetsAreAll }
+{}
+
+/// Every colouring has exactly one list of its closed sets of colours.
+pub fn closed_sets()
+    ensures exist { ClosedSetsExist }
+    ensures unique { ClosedSetsAreUnique }
+{}
+
+/// There are at most 128 points, and raw colours are at most 65535.
+pub fn limits()
+    ensures { AreLimits }
 {}

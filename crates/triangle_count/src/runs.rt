@@ -7,11 +7,8 @@ ghost use Rattle.std.specs.List.Sorted.{IsNonDecreasing};
 ghost use Rattle.triangle_count.specs.Runs.{IsTally, code_of};
 
 use crate::rows::{Entry, Row};
-use pair_colours::NoMemory;
+use pair_colours::{NoMemory, code_pair};
 use std::alloc::Global;
-
-// One above the greatest colour.
-const COLOURS: u64 = 0x1_0000_0000;
 
 // The entry of the two colours of a code.
 fn entry(code: u64, count: u32) -> Entry
@@ -19,11 +16,8 @@ fn entry(code: u64, count: u32) -> Entry
     ensures right { result.right < 2 ^ 32 }
     ensures count { result.count ≡ count }
 {
-    Entry {
-        left: (code / COLOURS) as u32,
-        right: (code % COLOURS) as u32,
-        count,
-    }
+    let (left, right) = code_pair(code);
+    Entry { left, right, count }
 }
 
 // Whether another code, or none, follows the one at a place.

@@ -1,13 +1,12 @@
 //! The triangle numbers of a pair of points.
 
 ghost use Rattle.std.specs.Prelude.{◌≡◌, ◌==◌, ◌&&◌, ◌<◌, IfOk};
-ghost use Rattle.pair_colours.specs.Colouring.{FitsColouring, colour_at, triangles};
-ghost use Rattle.pair_colours.specs.SideCodes.{side_codes};
+ghost use Rattle.pair_colours.specs.Colouring.{colour_at, triangles};
 ghost use Rattle.triangle_count.specs.Row.{IsRowAt};
 
 use crate::rows::Row;
 use crate::runs::runs;
-use pair_colours::{Colouring, NoMemory, pair_code};
+use pair_colours::{Colouring, NoMemory, side_codes};
 use std::alloc::Global;
 
 /// How many points z have the colour `left` from x to z and the colour `right` from z to y.
@@ -41,21 +40,7 @@ pub fn row_at(alloc: Global, c: &Colouring, x: u32, y: u32) -> Result<Row, NoMem
     requires column { y < c.now.size }
     ensures { IfOk result (λ row. IsRowAt c.now x y row) }
 {
-    let mut codes = sides(alloc, c, x, y)?;
+    let mut codes = side_codes(alloc, c, x, y)?;
     codes.sort_unstable();
     runs(alloc, &codes)
-}
-
-// The colours over each point, as codes.
-fn sides(alloc: Global, c: &Colouring, x: u32, y: u32) -> Result<Vec<u64>, NoMemory>
-    requires row { x < c.now.size }
-    requires column { y < c.now.size }
-    ensures codes { IfOk result (λ codes. codes.items ≡ side_codes c.now x y) }
-    ensures within { IfOk result (λ _. FitsColouring c.now) }
-{
-    let mut codes = Vec::with_capacity(alloc, c.size() as usize)?;
-    for z in 0..c.size() {
-        codes.push(pair_code(c.get(x, z), c.get(z, y)))?;
-    }
-    Ok(codes)
 }

@@ -17,13 +17,13 @@ use Rattle.wl_refine.specs.Signature.{IsSignature}
 use Rattle.wl_refine.proofs.Sorting.{in_order, in_order-rising, in_order-same, IsPermutation-in_order, IsPermutation-from_in_order}
 
 -- what the function returns
-pub IsSignature-sorted : (P : PairColouring) (x y z flag own turned : ℕ) (codes sorted out : List ℕ) → codes ≡ map (side_code P x y) (points z) → z ≡ P.size
+pub IsSignature-sorted : (P : PairColouring) (x y flag own turned : ℕ) (codes sorted out : List ℕ) → codes ≡ side_codes P x y
     → IsPermutation codes sorted → IsSorted nat_cmp sorted → flag ≡ (if x == y then 1 else 0) → own ≡ colour_at P x y → turned ≡ colour_at P y x
     → out ≡ ((sorted ++ flag ∷ []) ++ own ∷ []) ++ turned ∷ [] → IsSignature P x y out
-IsSignature-sorted P x y z flag own turned codes sorted out e end perm up f o t s = record {
+IsSignature-sorted P x y flag own turned codes sorted out e perm up f o t s = record {
   sides = sorted;
   rising = IsNonDecreasingBy-from_sort (λ k. k) sorted up;
-  of_pair = subst (λ l. IsPermutation l sorted) (e ∙ ap (λ n. map (side_code P x y) (points n)) end) perm;
+  of_pair = subst (λ l. IsPermutation l sorted) e perm;
   is = s ∙ (λ i. ((sorted ++ f i ∷ []) ++ o i ∷ []) ++ t i ∷ []) ∙ simp append_assoc;
 }
 

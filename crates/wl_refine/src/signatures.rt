@@ -5,7 +5,7 @@ ghost use Rattle.pair_colours.specs.Rounds.{IsRound};
 ghost use Rattle.wl_refine.specs.Signature.{IsSignature};
 
 use indexmap::IndexSet;
-use pair_colours::{Colouring, NoMemory, pair_code};
+use pair_colours::{Colouring, NoMemory, side_codes};
 use std::alloc::Global;
 
 // What decides which pairs are alike, as a list.
@@ -14,11 +14,7 @@ fn signature(alloc: Global, colouring: &Colouring, x: u32, y: u32) -> Result<Vec
     requires column { y < colouring.now.size }
     ensures { IfOk result (λ s. IsSignature colouring.now x y s.items) }
 {
-    let size = colouring.size();
-    let mut codes = Vec::with_capacity(alloc, size as usize + 3)?;
-    for z in 0..size {
-        codes.push(pair_code(colouring.get(x, z), colouring.get(z, y)))?;
-    }
+    let mut codes = side_codes(alloc, colouring, x, y)?;
     codes.sort_unstable();
     codes.push(u64::from(x == y))?;
     codes.push(u64::from(colouring.get(x, y)))?;

@@ -1,5 +1,4 @@
-use Rattle.pair_colours.proofs.Exists.{closure_exists}
-use Rattle.pair_colours.proofs.Closures.{closure_is_unique, named_closure_exists, named_closure_is_unique}
+use Rattle.pair_colours.proofs.LawProofs.{closure_exists, closure_is_unique, named_closure_exists, named_closure_is_unique}
 use Rattle.pair_colours.proofs.laws.l1.Goals as goal
 
 pub returns-clause-exists : goal.returns-clause-exists

@@ -1,7 +1,7 @@
 use Rattle.std.proofs.Common.{◌≡◌, map}
 use Rattle.pair_colours.specs.Colouring.{points}
 use Rattle.pair_colours.specs.SideCodes.{side_code}
-use Rattle.triangle_count.proofs.triangles.sides.Given as goal
+use Rattle.pair_colours.proofs.pair_codes.side_codes.Given as goal
 
 abbrev pub invariant-loop-z : goal.invariant-loop-z
-invariant-loop-z l = l.codes.items ≡ map (side_code l.c l.x l.y) (points l.z)
+invariant-loop-z l = l.codes.items ≡ map (side_code l.colouring l.x l.y) (points l.z)

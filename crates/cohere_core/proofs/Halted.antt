@@ -1,5 +1,5 @@
 -- A task for which a file was not read.
-use Rattle.std.proofs.Common.{◌≡◌, ◌⊎◌, ℕ, List, Option, Some, None, refl, ap, subst, inl, inr}
+use Rattle.std.proofs.Common.{◌⊎◌, ℕ, List, Option, Some, None, refl, ap, subst, inl, inr}
 use Rattle.std.specs.Prelude.{◌≢◌, IsSome, IfSome}
 use Rattle.scheme_io.specs.Files.{Files, IsMissing}
 use Rattle.cohere_inputs.specs.declared.faults.FileFault.{FileFault}
@@ -12,7 +12,6 @@ use Rattle.cohere_inputs.specs.Bad.{IsFault}
 use Rattle.cohere_inputs.specs.Lines.{halt_line, fault_line, unread_line}
 use Rattle.cohere_inputs.specs.Unread.{Halts}
 use Rattle.cohere_inputs.proofs.LawProofs.{none_is_first, first_bad_is_unique}
-use Rattle.cohere_core.specs.declared.status.Status.TheVariants as statuses
 use Rattle.cohere_core.specs.Halt.{halt_status}
 use Rattle.cohere_core.specs.Run.{ErrorLineAfter, IsDecided, SaysBad, SaysUnread, status_of}
 
@@ -34,7 +33,7 @@ says_unread files task name why rose says h unread said =
 
 -- the line after the status
 pub halted_line : (files : Option Files) (task : Task) (name : List ℕ) (why : Unread) (rose : Type 0) (says : List ℕ → Type 0) → Halts files task name why rose
-    → says (halt_line name why) → ErrorLineAfter (halt_status why) task files rose says
+    → says (halt_line name why) → ErrorLineAfter task (halt_status why) files rose says
 halted_line files task name (Bad Missing) rose says h said = says_unread files task name (Bad Missing) rose says h (inr (missing_where_told files h.need h.cause.0 (h.cause.1 refl))) said
 halted_line files task name (Bad TooLong) rose says h said = says_bad files task name TooLong rose says (λ e. cc) h said
 halted_line files task name (Bad (Relation what at)) rose says h said = says_bad files task name (Relation what at) rose says (λ e. cc) h said

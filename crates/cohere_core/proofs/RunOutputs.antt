@@ -1,5 +1,5 @@
 -- The output of a run of a script, and its status.
-use Rattle.std.proofs.Common.{◌≡◌, ◌≤◌, ◌⊎◌, ℕ, List, Option, Some, None, refl, inl, inr, subst, sym, arith}
+use Rattle.std.proofs.Common.{◌≡◌, ◌⊎◌, ℕ, List, Option, Some, None, refl, subst, arith}
 use Rattle.std.specs.Prelude.{IfSome}
 use Rattle.std.specs.List.{AllByRecursion}
 use Rattle.std.proofs.KnownBytes.{Keeps-refl, Appends-nil}
@@ -21,7 +21,7 @@ use Rattle.cohere_core.specs.declared.status.Status.{Status}
 use Rattle.cohere_core.specs.declared.status.Status.TheVariants as statuses
 use Rattle.cohere_core.specs.Halt.{halt_status}
 use Rattle.cohere_core.specs.Output.{AddsScriptFront}
-use Rattle.cohere_core.specs.Run.{IsDecided, IsStatusWithoutFaults, OutputAfter}
+use Rattle.cohere_core.specs.Run.{IsStatusWithoutFaults, OutputAfter}
 use Rattle.cohere_core.specs.RunForm.{RunOutput, AddsRunFrontOrNothing}
 use Rattle.cohere_core.proofs.Halted.{halted_status}
 use Rattle.cohere_core.proofs.Runs.{output_exists}

@@ -24,10 +24,10 @@ MayAnswer (Run run) status = RunMayAnswer status
 abbrev pub OutputAfter : Task → Status → Option Files → Option (List ℕ) → Option (List ℕ) → Type 0
 OutputAfter (Run run) status files old new = IfSome files (λ files. RunOutputAfter run status files old new)
 
--- the store is the same as before, if nothing is to be loaded for the words
-abbrev pub KeepsStore : Option Task → Type 0 → Type 0
-KeepsStore None same = same
-KeepsStore (Some (Run run)) same = ⊤
+-- the fact, where no file is loaded for what the words ask for
+abbrev pub IfNothingIsLoaded : Option Task → Type 0 → Type 0
+IfNothingIsLoaded None fact = fact
+IfNothingIsLoaded (Some (Run run)) fact = ⊤
 
 -- before this status the output is not touched
 abbrev pub IsBeforeOutput : Status → Type 0
@@ -64,10 +64,10 @@ pub record SaysUnread (files : Option Files) (task : Task) (rose : Type 0) (says
   pub unread : rose ⊎ IsMissing files need.name
 
 -- what is said after this status; rose: the store's faults rose
-abbrev pub ErrorLineAfter : Status → Task → Option Files → Type 0 → (List ℕ → Type 0) → Type 0
-ErrorLineAfter BadInput task files rose says = SaysBad files task says
-ErrorLineAfter StoreFailed task files rose says = SaysUnread files task rose says
-ErrorLineAfter _ task files rose says = ⊤
+abbrev pub ErrorLineAfter : Task → Status → Option Files → Type 0 → (List ℕ → Type 0) → Type 0
+ErrorLineAfter task BadInput files rose says = SaysBad files task says
+ErrorLineAfter task StoreFailed files rose says = SaysUnread files task rose says
+ErrorLineAfter task _ files rose says = ⊤
 
 -- what is said after this status, whatever the words ask for
 abbrev pub LineAfter : Status → (List ℕ → Type 0) → Type 0

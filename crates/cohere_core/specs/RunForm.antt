@@ -1,5 +1,5 @@
 -- The form `run RELATION SCRIPT [LINE]`: what it answers, and what it adds to the output.
-use Rattle.std.specs.Prelude.{◌≡◌, ℕ, List, take, Option, ⊤}
+use Rattle.std.specs.Prelude.{ℕ, List, take, Option, ⊤}
 use Rattle.std.specs.Io.KnownBytes.{Appends, Keeps}
 use Rattle.scheme_io.specs.Files.{Files}
 use Rattle.pair_colours.specs.Colouring.{PairColouring}

@@ -26,7 +26,7 @@ pub(crate) fn answer_run<S: Store, O: Sink, E: Sink>(
     ensures output { OutputAfter (Run (asked_run words.entry)) result (S.files store.old) (O.written out.old) (O.written out.new) }
     ensures quiet { IsQuiet result → err.new ≡ err.old }
     ensures line { LineAfter result (AddsLine E.written E.faults err.old err.new) }
-    ensures error_line { ErrorLineAfter result (Run (asked_run words.entry)) (S.files store.old)
+    ensures error_line { ErrorLineAfter (Run (asked_run words.entry)) result (S.files store.old)
         (Rose (S.faults store.old) (S.faults store.new)) (AddsLine E.written E.faults err.old err.new) }
     ensures may_answer { MayAnswer (Run (asked_run words.entry)) result }
     ensures same_out { IsBeforeOutput result → out.new ≡ out.old }

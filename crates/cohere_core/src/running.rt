@@ -6,7 +6,7 @@ ghost use Rattle.cohere_inputs.specs.Asked.{asked};
 ghost use Rattle.cohere_inputs.specs.Said.{AddsLine};
 ghost use Rattle.cohere_inputs.specs.Task.{IsAsked};
 ghost use Rattle.cohere_inputs.specs.Words.{texts, task_of, IfAsked};
-ghost use Rattle.cohere_core.specs.Run.{MayAnswer, OutputAfter, KeepsStore, IsQuiet, LineAfter, ErrorLineAfter, IsStatusWithoutFaults, FirstBadIsMissing, FirstBadIsText, IsBeforeOutput};
+ghost use Rattle.cohere_core.specs.Run.{MayAnswer, OutputAfter, IfNothingIsLoaded, IsQuiet, LineAfter, ErrorLineAfter, IsStatusWithoutFaults, FirstBadIsMissing, FirstBadIsText, IsBeforeOutput};
 
 use crate::Status;
 use crate::run_form::answer_run;
@@ -32,11 +32,11 @@ pub fn run<S: Store, O: Sink, E: Sink>(
     ensures quiet { IsQuiet result → err.new ≡ err.old }
     ensures line { LineAfter result (AddsLine E.written E.faults err.old err.new) }
     ensures error_line { IfAsked words.now (λ task.
-        ErrorLineAfter result task (S.files store.old) (Rose (S.faults store.old) (S.faults store.new)) (AddsLine E.written E.faults err.old err.new)) }
+        ErrorLineAfter task result (S.files store.old) (Rose (S.faults store.old) (S.faults store.new)) (AddsLine E.written E.faults err.old err.new)) }
 
     // Usage comes exactly where the words fit no form. No file is loaded for such words.
     ensures usage { (result ≡ Status.Usage) ↔ (task_of (texts words.now) ≡ None) }
-    ensures same_store { KeepsStore (task_of (texts words.now)) (store.new ≡ store.old) }
+    ensures same_store { IfNothingIsLoaded (task_of (texts words.now)) (store.new ≡ store.old) }
     ensures same_out { IsBeforeOutput result → out.new ≡ out.old }
 
     // The other answers and their causes.
@@ -73,7 +73,7 @@ fn carry_out<S: Store, O: Sink, E: Sink>(
     ensures output { OutputAfter (asked task.entry) result (S.files store.old) (O.written out.old) (O.written out.new) }
     ensures quiet { IsQuiet result → err.new ≡ err.old }
     ensures line { LineAfter result (AddsLine E.written E.faults err.old err.new) }
-    ensures error_line { ErrorLineAfter result (asked task.entry) (S.files store.old)
+    ensures error_line { ErrorLineAfter (asked task.entry) result (S.files store.old)
         (Rose (S.faults store.old) (S.faults store.new)) (AddsLine E.written E.faults err.old err.new) }
     ensures no_usage { result ≢ Status.Usage }
     ensures may_answer { MayAnswer (asked task.entry) result }

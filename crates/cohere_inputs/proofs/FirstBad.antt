@@ -1,5 +1,5 @@
 -- Of the files of a task none is bad, or one is the first bad one.
-use Rattle.std.proofs.Common.{◌≡◌, ◌<◌, ◌≤◌, ◌⊎◌, ℕ, List, [], ◌∷◌, length, Option, Some, None, refl, sym, ap, subst, ◌∙◌, arith, inl, inr, ⊎_elim}
+use Rattle.std.proofs.Common.{◌≡◌, ◌≤◌, ◌⊎◌, ℕ, List, [], ◌∷◌, length, Option, Some, None, refl, sym, ap, subst, ◌∙◌, arith, inl, inr, ⊎_elim}
 use Rattle.std.specs.Prelude.{MatchOption, IsSome, ⊤}
 use Rattle.std.specs.List.{AllByRecursion}
 use Rattle.std.specs.FinMap.{get}
@@ -18,13 +18,13 @@ use Rattle.script_text.specs.declared.faults.ScriptWord.{ScriptWord}
 use Rattle.script_text.proofs.LawProofs.{script_has_no_fault, script_is_unique, script_or_fault}
 use Rattle.cohere_inputs.specs.declared.faults.FileFault.{FileFault}
 use Rattle.cohere_inputs.specs.declared.faults.FileFault.TheVariants.{Missing, TooLong, Relation, Script, NotYet}
-use Rattle.cohere_inputs.specs.Task.{Task, Run, IsAsked}
-use Rattle.cohere_inputs.specs.Acts.{AreBuilt, first_unbuilt}
+use Rattle.cohere_inputs.specs.Task.{Run}
+use Rattle.cohere_inputs.specs.Acts.{first_unbuilt}
 use Rattle.cohere_inputs.specs.Kind.{Kind, limit_of}
 use Rattle.cohere_inputs.specs.Kind as kinds
 use Rattle.cohere_inputs.specs.Needs.{Need, named_files}
-use Rattle.cohere_inputs.specs.Texts.{IsText, IsTextFault, IsBuiltScript}
-use Rattle.cohere_inputs.specs.Bad.{HoldsWithin, IsGood, IsTooLong, IsFault, IsReachedIn, IsReached, IsFirstBad, NoneIsBad}
+use Rattle.cohere_inputs.specs.Texts.{IsText, IsTextFault}
+use Rattle.cohere_inputs.specs.Bad.{HoldsWithin, IsGood, IsTooLong, IsFault, IsReachedIn}
 use Rattle.cohere_inputs.specs.Law.{NoneOrFirstBad, NoneIsFirst, FirstBadIsUnique}
 use Rattle.cohere_inputs.proofs.BuiltActs.{built_from_none, none_from_built}
 

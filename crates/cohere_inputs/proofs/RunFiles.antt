@@ -1,5 +1,5 @@
 -- Where the loading of a run's files stops.
-use Rattle.std.proofs.Common.{◌≡◌, ◌≤◌, ℕ, List, [], ◌∷◌, length, Option, Some, None, refl, subst, arith, inl, inr}
+use Rattle.std.proofs.Common.{◌≡◌, ◌≤◌, ℕ, Option, Some, None, refl, subst, arith, inl, inr}
 use Rattle.std.specs.Prelude.{IfSome}
 use Rattle.pair_colours.specs.Colouring.{PairColouring}
 use Rattle.scheme_io.specs.Count.{Rose}
@@ -8,7 +8,7 @@ use Rattle.cohere_inputs.specs.declared.faults.Unread.{Unread}
 use Rattle.cohere_inputs.specs.declared.faults.Unread.TheVariants.{Bad, StoreFailed, NoMemory}
 use Rattle.cohere_inputs.specs.Task.{Run, RunWords}
 use Rattle.cohere_inputs.specs.Needs.{Need, named_files, script_need}
-use Rattle.cohere_inputs.specs.Bad.{IsRelationFile, IsFault}
+use Rattle.cohere_inputs.specs.Bad.{IsRelationFile}
 use Rattle.cohere_inputs.specs.Unread.{IsCause, ComesTo}
 use Rattle.cohere_inputs.proofs.Pieces.{Rose_since}
 

@@ -23,7 +23,7 @@ returns-in-Err-clause-error_line g c =
     let files = g.S.Store.files c.args.store.now in
     let says = AddsLine g.E.Sink.written g.E.Sink.faults c.args.err.now c.report.new.err in
     let rose = Rose (g.S.Store.faults c.args.store.now) (g.S.Store.faults c.run_inputs.new.store) in
-    subst (λ (s : Status). ErrorLineAfter s (Run (asked_run c.args.words)) files rose says) (sym c.report.ensures.status)
+    subst (λ (s : Status). ErrorLineAfter (Run (asked_run c.args.words)) s files rose says) (sym c.report.ensures.status)
     (halted_line files (Run (asked_run c.args.words)) c.in-Err.halt.name.now c.in-Err.halt.why rose says c.in-Err.ensures.halt c.report.ensures.line)
 
 pub returns-in-Err-clause-complete : goal.returns-in-Err-clause-complete

@@ -1,9 +1,9 @@
 -- An accepted claim of raw colourings can be written as a trace.
-use Rattle.std.proofs.Common.{◌≡◌, ℕ, ◌+◌, ◌*◌, ◌/◌, ◌%◌, ◌<◌, ◌≤◌, List, [], ◌∷◌, ◌++◌, length, get_or, All, Option, None, Some, refl, sym, ap, subst, ◌∙◌, arith}
+use Rattle.std.proofs.Common.{◌≡◌, ℕ, ◌*◌, ◌/◌, ◌%◌, ◌<◌, ◌≤◌, List, [], ◌∷◌, length, get_or, All, Option, None, Some, refl, sym, ap, subst, ◌∙◌, arith}
 use Rattle.std.specs.List.{AllByRecursion}
 use Rattle.std.proofs.lemmas.Nat.{mul-le}
 use Rattle.std.proofs.lemmas.List.Elements.{recursion_from_All, All-from_get_or}
-use Rattle.pair_colours.specs.Colouring.{PairColouring, IsColouring, IsRawColouring, colour_at}
+use Rattle.pair_colours.specs.Colouring.{PairColouring, IsColouring, IsRawColouring}
 use Rattle.pair_colours.specs.declared.coloured_pairs.TheConstants.{MOST_COLOUR, MOST_POINTS}
 use Rattle.pair_colours.specs.Naming.{rank_of, named_of}
 use Rattle.pair_colours.proofs.ListLemmas.{Each-weaker}

@@ -1,5 +1,5 @@
 -- The lines of a claim are what its reading is written as.
-use Rattle.std.proofs.Common.{◌≡◌, ℕ, zero, suc, ◌+◌, ◌*◌, ◌<◌, ◌≤◌, List, [], ◌∷◌, ◌++◌, length, take, drop, map, get_or, refl, sym, ap, subst, ◌∙◌, arith}
+use Rattle.std.proofs.Common.{◌≡◌, ℕ, zero, suc, ◌+◌, ◌*◌, ◌<◌, ◌≤◌, List, [], ◌∷◌, ◌++◌, length, take, drop, map, refl, sym, ap, ◌∙◌, arith}
 use Rattle.std.specs.Prelude.{codes, decimal}
 use Rattle.std.specs.List.{AllByRecursion, flat_map, range_with_len}
 use Rattle.std.proofs.lemmas.List.{append_assoc, ext_get_or, get_or-take, get_or-drop, drop-drop, length-drop, length-take-le}
@@ -12,9 +12,9 @@ use Rattle.trace_text.specs.declared.stage_list.Stage.{Stage}
 use Rattle.trace_text.specs.declared.stage_list.Claim.{Claim}
 use Rattle.trace_text.specs.TraceText.{step_line, matrix_lines, stage_lines, trace_lines}
 use Rattle.trace_text.specs.TraceFault.{at_head}
-use Rattle.trace_text.specs.ClaimTexts.{IsTraceStage, FitsTrace, AreTraceLines}
+use Rattle.trace_text.specs.ClaimTexts.{IsTraceStage, FitsTrace}
 use Rattle.trace_text.proofs.RawNumbers.{raw_each, raw_from}
-use Rattle.trace_text.proofs.LinesLeft.{Left, rows_of, stage_shown, closure_shown, shown, Fits, FitsStages}
+use Rattle.trace_text.proofs.LinesLeft.{Left, rows_of, stage_shown, shown, Fits}
 
 -- the numbers of a row
 row_numbers : (C : PairColouring) (x : ℕ) → IsColouring C → x < C.size → map (λ y. colour_at C x y) (points C.size) ≡ take C.size (drop (x * C.size) C.colours)

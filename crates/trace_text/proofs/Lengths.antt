@@ -1,5 +1,5 @@
 -- How long the text of an accepted claim is.
-use Rattle.std.proofs.Common.{◌≡◌, ℕ, ◌+◌, ◌*◌, ◌^◌, ◌<◌, ◌≤◌, List, [], ◌∷◌, ◌++◌, length, map, sum_by, All, refl, sym, ap, subst, ◌∙◌, arith}
+use Rattle.std.proofs.Common.{◌≡◌, ℕ, ◌+◌, ◌*◌, ◌^◌, ◌<◌, ◌≤◌, List, [], ◌∷◌, ◌++◌, length, map, sum_by, All, refl, sym, ap, subst, arith}
 use Rattle.std.specs.Prelude.{codes, decimal}
 use Rattle.std.specs.List.{AllByRecursion, flat_map, join_with_byte}
 use Rattle.std.proofs.lemmas.Fmt.{length-decimal-le}
@@ -20,7 +20,6 @@ use Rattle.trace_text.specs.declared.step_list.Step.TheVariants.{Diag, Flip, Tri
 use Rattle.trace_text.specs.declared.stage_list.Stage.{Stage}
 use Rattle.trace_text.specs.declared.stage_list.Claim.{Claim}
 use Rattle.trace_text.specs.Limits.{most_stages}
-use Rattle.trace_text.specs.Split.{numbers_of}
 use Rattle.trace_text.specs.Acceptance.{Accepts, step_count}
 use Rattle.trace_text.specs.TraceText.{step_line, matrix_lines, stage_lines, trace_lines, trace_text}
 use Rattle.trace_text.specs.ClaimTexts.{IsTraceStep, IsTraceStage}

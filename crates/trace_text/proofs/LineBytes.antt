@@ -1,5 +1,5 @@
 -- The lines of a trace are those of its text: none of its bytes ends a line.
-use Rattle.std.proofs.Common.{◌≡◌, ℕ, zero, suc, ◌+◌, ◌*◌, ◌-◌, ◌<◌, ◌≤◌, ◌^◌, Bool, true, false, cond, min, eqb, leb, ltb, List, [], ◌∷◌, ◌++◌, length, take, drop, map, get_or, refl, sym, ap, subst, ◌∙◌, arith, All, ◌&&◌}
+use Rattle.std.proofs.Common.{◌≡◌, ℕ, zero, suc, ◌+◌, ◌*◌, ◌-◌, ◌<◌, ◌≤◌, ◌^◌, true, cond, eqb, leb, ltb, List, [], ◌∷◌, ◌++◌, length, take, drop, map, get_or, refl, sym, ap, subst, ◌∙◌, arith}
 use Rattle.std.specs.Prelude.{codes, decimal}
 use Rattle.std.specs.List.{AllByRecursion, flat_map, join_with_byte, position_or_len, list_all}
 use Rattle.std.specs.Str.{all_ascii_digits}
@@ -8,14 +8,14 @@ use Rattle.std.specs.Char.{is_ascii_digit}
 use Rattle.std.proofs.Math.Seq.{drop-append-add}
 use Rattle.std.proofs.lemmas.Bool.{ne_eqb, leb-true, ltb-true, eq-eqb}
 use Rattle.std.proofs.lemmas.Fmt.{digits_decimal, decimal_nonempty}
-use Rattle.std.proofs.lemmas.List.{append_assoc, length-append, length-take-le, get_or_append_left, get_or_at, take_at}
+use Rattle.std.proofs.lemmas.List.{append_assoc, length-append, get_or_append_left, get_or_at, take_at}
 use Rattle.std.proofs.lemmas.List.Elements.{All-from_recursion}
 use Rattle.std.proofs.lemmas.List.Sums.{position_or_len_is}
 use Rattle.text_lines.specs.Lines.{lines_from, lines_of}
 use Rattle.text_lines.specs.Joined.{spaced}
 use Rattle.text_lines.proofs.FirstLine.{lines_from-step}
 use Rattle.text_lines.proofs.Numbers.{digit_numerals}
-use Rattle.pair_colours.specs.declared.coloured_pairs.TheConstants.{MOST_COLOUR, MOST_POINTS}
+use Rattle.pair_colours.specs.declared.coloured_pairs.TheConstants.{MOST_COLOUR}
 use Rattle.pair_colours.proofs.ListLemmas.{Each-append, Each-map, Each-weaker}
 use Rattle.trace_text.specs.declared.step_list.Step.{Step}
 use Rattle.trace_text.specs.declared.step_list.Step.TheVariants.{Diag, Flip, Tri}
@@ -29,7 +29,7 @@ use Rattle.trace_text.proofs.RawNumbers.{raw_each}
 use Rattle.trace_text.proofs.LineNumbers.{both, small_numbers}
 use Rattle.trace_text.specs.Split.{numbers_of}
 use Rattle.trace_text.proofs.LineReadings.{step_words, step_line-words}
-use Rattle.trace_text.proofs.LinesLeft.{Left, rows_of, stage_shown, closure_shown, shown, cut_row}
+use Rattle.trace_text.proofs.LinesLeft.{rows_of, stage_shown, closure_shown, shown, cut_row}
 use Rattle.trace_text.proofs.ClaimLines.{claim_lines, left_of}
 
 -- bytes that end no line

@@ -1,7 +1,7 @@
 -- Numbers between single spaces.
-use Rattle.std.proofs.Common.{◌≡◌, ◌&&◌, ℕ, ◌<◌, ◌≤◌, ◌^◌, Bool, true, false, leb, eqb, List, [], ◌∷◌, ◌++◌, length, map, All, Option, Some, None, refl, sym, ap, subst, ◌∙◌, arith}
+use Rattle.std.proofs.Common.{◌≡◌, ◌&&◌, ℕ, ◌<◌, ◌≤◌, ◌^◌, Bool, true, false, leb, eqb, List, [], ◌∷◌, length, map, Option, Some, None, refl, ap, ◌∙◌, arith}
 use Rattle.std.specs.Prelude.{decimal, is_some, unwrap_or}
-use Rattle.std.specs.List.{AllByRecursion, slice_split, join_with_byte, list_all}
+use Rattle.std.specs.List.{AllByRecursion, join_with_byte, list_all}
 use Rattle.std.specs.Str.{all_ascii_digits}
 use Rattle.std.specs.Char.{is_ascii_digit}
 use Rattle.std.proofs.lemmas.Bool.{and_from, le-leb, leb-true, ne_eqb, eq-eqb, eqb-true}
@@ -9,7 +9,7 @@ use Rattle.std.proofs.lemmas.Fmt.{digits_decimal}
 use Rattle.std.proofs.lemmas.List.{length-map}
 use Rattle.std.proofs.lemmas.List.Elements.{All-from_recursion}
 use Rattle.std.proofs.lemmas.List.Splits.{slice_split_none, slice_split_at, join_with_byte-slice_split}
-use Rattle.text_lines.specs.Number.{IsNumberForm, number_of}
+use Rattle.text_lines.specs.Number.{number_of}
 use Rattle.text_lines.specs.Joined.{spaced}
 use Rattle.text_lines.proofs.Numbers.{number_of-form, form-number_of, digit_numerals}
 use Rattle.trace_text.specs.TraceFault.{between_spaces, is_number_to, are_numbers}

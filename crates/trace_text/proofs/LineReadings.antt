@@ -1,8 +1,8 @@
 -- From the lines of a trace to what they say, and back: line by line.
-use Rattle.std.proofs.Common.{◌≡◌, ◌&&◌, ◌||◌, ℕ, zero, suc, ◌+◌, ◌*◌, ◌<◌, ◌≤◌, ◌^◌, Bool, true, false, cond, leb, eqb, List, [], ◌∷◌, ◌++◌, length, take, drop, map, Option, Some, None, refl, sym, ap, subst, ◌∙◌, arith, ◌⊎◌, inl, inr}
+use Rattle.std.proofs.Common.{◌≡◌, ◌&&◌, ◌||◌, ℕ, ◌≤◌, Bool, true, false, cond, leb, List, [], ◌∷◌, ◌++◌, length, drop, map, Option, Some, None, refl, sym, ap, ◌∙◌, arith, ◌⊎◌, inl, inr}
 use Rattle.std.specs.Prelude.{codes, decimal, is_some, unwrap_or, nat_eq, bytes_eq}
-use Rattle.std.specs.List.{AllByRecursion, flat_map, join_with_byte, starts_with}
-use Rattle.std.proofs.lemmas.Bool.{and_from, le-leb, leb-true}
+use Rattle.std.specs.List.{AllByRecursion, join_with_byte, starts_with}
+use Rattle.std.proofs.lemmas.Bool.{le-leb, leb-true}
 use Rattle.std.proofs.lemmas.Bool.Decides.{Decides-eqb}
 use Rattle.std.proofs.lemmas.List.{append-nil}
 use Rattle.std.proofs.lemmas.Slice.Eq.{starts_is, bytes_eq-Decides}
@@ -12,13 +12,12 @@ use Rattle.text_lines.proofs.Numbers.{form-number_of}
 use Rattle.pair_colours.specs.declared.coloured_pairs.TheConstants.{MOST_COLOUR, MOST_POINTS}
 use Rattle.trace_text.specs.declared.step_list.Step.{Step}
 use Rattle.trace_text.specs.declared.step_list.Step.TheVariants.{Diag, Flip, Tri}
-use Rattle.trace_text.specs.declared.stage_list.Stage as declared
 use Rattle.trace_text.specs.Split.{numbers_of}
 use Rattle.trace_text.specs.declared.limits.TheConstants.{MOST_STEP_NUMBER}
 use Rattle.trace_text.specs.TraceText.{step_line, letter_of}
-use Rattle.trace_text.specs.TraceFault.{Place, at_head, at_points, at_stage, at_row, at_body, at_closure_row, at_end, at_extra, between_spaces, is_row_line, is_lettered, is_step_line, points_on, next_row, next_closure_row, next_place, fault_from, are_numbers}
+use Rattle.trace_text.specs.TraceFault.{between_spaces, is_row_line, is_lettered, is_step_line, points_on, are_numbers}
 use Rattle.trace_text.specs.ClaimTexts.{IsTraceStep}
-use Rattle.trace_text.proofs.LineNumbers.{both, HasNoSpace, split_join, join_split, value, number_of-decimal, value-decimal, WriteTo, write_values, are_numbers-decimal, values-decimal, small_numbers, decimals_no_space, between_spaces-spaced, some_value}
+use Rattle.trace_text.proofs.LineNumbers.{both, HasNoSpace, split_join, join_split, value, number_of-decimal, value-decimal, WriteTo, write_values, are_numbers-decimal, values-decimal, small_numbers, decimals_no_space, between_spaces-spaced}
 
 -- the numbers of a row line
 abbrev pub numbers_in : List ℕ → List ℕ

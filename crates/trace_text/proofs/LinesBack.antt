@@ -1,6 +1,6 @@
 -- A line that may stand in its place is what its reading is written as.
-use Rattle.std.proofs.Common.{◌≡◌, ℕ, zero, suc, ◌+◌, ◌*◌, ◌<◌, ◌≤◌, Bool, true, false, cond, List, [], ◌∷◌, ◌++◌, length, take, drop, map, Option, Some, None, refl, sym, ap, subst, ◌∙◌, arith, ◌⊎◌, inl, inr}
-use Rattle.std.specs.Prelude.{codes, decimal, bytes_eq, unwrap_or, ⊤}
+use Rattle.std.proofs.Common.{◌≡◌, ℕ, zero, suc, ◌*◌, ◌≤◌, Bool, true, false, cond, List, [], ◌∷◌, ◌++◌, length, take, drop, map, Option, Some, None, refl, sym, ap, subst, ◌∙◌, arith, inl, inr}
+use Rattle.std.specs.Prelude.{codes, bytes_eq, unwrap_or, ⊤}
 use Rattle.std.specs.List.{AllByRecursion, flat_map}
 use Rattle.std.proofs.Math.Seq.{take-append_seam, drop-append_seam}
 use Rattle.std.proofs.lemmas.Bool.{cases_Bool}
@@ -13,7 +13,7 @@ use Rattle.trace_text.specs.TraceText.{step_line}
 use Rattle.trace_text.specs.ClaimTexts.{IsTraceStep, IsTraceStage}
 use Rattle.trace_text.proofs.LineNumbers.{value, value-decimal}
 use Rattle.trace_text.proofs.LineReadings.{numbers_in, step_in, row_back, IsRowOf, step_back, bytes_same, points_back, some_from}
-use Rattle.trace_text.proofs.LinesLeft.{Left, nothing, with_stage, with_numbers, with_step, with_closure, with_size, decode_line, rows_of, chain_shown, body_shown, points_shown, shown, Fits, FitsChain, FitsRows, FitsClosure, FitsStages, stage_shown, closure_shown, BackTo, Back, next_row-shown, next_row-rows, next_closure_row-shown, next_closure_row-closure, stage_shows, stage_fits}
+use Rattle.trace_text.proofs.LinesLeft.{Left, with_stage, with_numbers, with_step, with_closure, with_size, rows_of, chain_shown, body_shown, points_shown, shown, Fits, FitsRows, FitsClosure, FitsStages, stage_shown, closure_shown, BackTo, Back, next_row-shown, next_row-rows, next_closure_row-shown, next_closure_row-closure, stage_shows, stage_fits}
 
 some_is : (a b : Place) → Some a ≡ Some b → a ≡ b
 some_is a b e = ap (λ o. unwrap_or o a) e

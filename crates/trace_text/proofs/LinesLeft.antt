@@ -1,21 +1,18 @@
 -- What the lines after a place say, and that they say it without a fault.
-use Rattle.std.proofs.Common.{◌≡◌, ℕ, zero, suc, ◌+◌, ◌*◌, ◌<◌, ◌≤◌, Bool, true, false, cond, List, [], ◌∷◌, ◌++◌, length, take, drop, map, Option, Some, None, refl, sym, ap, subst, ◌∙◌, arith, ◌⊎◌, inl, inr}
+use Rattle.std.proofs.Common.{◌≡◌, ℕ, zero, suc, ◌+◌, ◌*◌, ◌≤◌, Bool, false, cond, List, [], ◌∷◌, ◌++◌, length, take, drop, map, Option, Some, None, refl, sym, ap, subst, ◌∙◌, arith, ◌⊎◌, inl, inr}
 use Rattle.std.specs.Prelude.{codes, decimal, bytes_eq}
 use Rattle.std.specs.List.{AllByRecursion, flat_map}
-use Rattle.std.proofs.lemmas.List.{append_assoc, take-append-drop, length-drop, length-take-le, nil_from_length, length-append}
+use Rattle.std.proofs.lemmas.List.{append_assoc, take-append-drop, length-drop, length-take-le, nil_from_length}
 use Rattle.text_lines.specs.Joined.{spaced}
 use Rattle.pair_colours.specs.declared.coloured_pairs.TheConstants.{MOST_COLOUR, MOST_POINTS}
-use Rattle.pair_colours.specs.Colouring.{IsColouring}
-use Rattle.pair_colours.proofs.ListLemmas.{Each-append}
 use Rattle.trace_text.specs.declared.step_list.Step.{Step}
 use Rattle.trace_text.specs.declared.stage_list.Stage.{Stage}
-use Rattle.trace_text.specs.declared.trace_faults.TraceWord.{TraceWord}
 use Rattle.trace_text.specs.TraceText.{step_line}
-use Rattle.trace_text.specs.TraceFault.{Place, at_head, at_points, at_stage, at_row, at_body, at_closure_row, at_end, at_extra, is_row_line, is_step_line, points_on, next_row, next_closure_row, next_place, sized, fault_from, fault_on, word_at}
+use Rattle.trace_text.specs.TraceFault.{Place, at_head, at_points, at_stage, at_row, at_body, at_closure_row, at_end, at_extra, is_step_line, next_row, next_closure_row, next_place, sized}
 use Rattle.trace_text.specs.ClaimTexts.{IsTraceStep, IsTraceStage}
 use Rattle.trace_text.proofs.RawNumbers.{raw_each, raw_from}
-use Rattle.trace_text.proofs.LineNumbers.{both, value, value-decimal}
-use Rattle.trace_text.proofs.LineReadings.{numbers_in, step_in, row_good, row_back, IsRowOf, step_good, step_other, step_back, bytes_same, points_good, points_back, some_from}
+use Rattle.trace_text.proofs.LineNumbers.{value, value-decimal}
+use Rattle.trace_text.proofs.LineReadings.{numbers_in, step_in, row_good, step_good, step_other, points_good}
 
 -- what the lines that are left say: the number of points, the numbers of the matrix that stands here, the steps after it, the stages, and the closure
 pub record Left : Type 0 where

@@ -1,8 +1,7 @@
 -- A matrix that is read row by row.
-use Rattle.std.proofs.Common.{◌≡◌, ℕ, zero, suc, ◌+◌, ◌*◌, ◌-◌, ◌<◌, ◌≤◌, Bool, true, false, cond, List, [], ◌∷◌, ◌++◌, length, take, drop, map, Option, Some, None, refl, sym, ap, subst, ◌∙◌, arith}
-use Rattle.std.specs.Prelude.{option_map}
+use Rattle.std.proofs.Common.{◌≡◌, ℕ, zero, suc, ◌+◌, ◌*◌, ◌-◌, ◌<◌, ◌≤◌, true, cond, List, [], ◌∷◌, ◌++◌, length, take, drop, Some, None, sym, ap, subst, ◌∙◌, arith}
 use Rattle.std.specs.List.{AllByRecursion}
-use Rattle.std.proofs.lemmas.List.{append_assoc, take_all, take_at, length-append, length-drop, drop-append-le, take-append-le, length-take-le}
+use Rattle.std.proofs.lemmas.List.{append_assoc, take_all, length-drop, drop-append-le, take-append-le, length-take-le}
 use Rattle.std.proofs.lemmas.Nat.{mul-le}
 use Rattle.text_lines.specs.Joined.{spaced}
 use Rattle.pair_colours.specs.Colouring.{PairColouring, IsColouring, IsRawColouring}
@@ -12,7 +11,7 @@ use Rattle.trace_text.specs.TraceText.{matrix_lines}
 use Rattle.trace_text.specs.TraceFault.{is_row_line}
 use Rattle.trace_text.specs.Reading.{rows_fault}
 use Rattle.trace_text.proofs.RawNumbers.{raw_from}
-use Rattle.trace_text.proofs.LineReadings.{numbers_in, row_back, IsRowOf}
+use Rattle.trace_text.proofs.LineReadings.{numbers_in, row_back}
 use Rattle.trace_text.proofs.LinesLeft.{rows_of}
 use Rattle.trace_text.proofs.ClaimLines.{matrix_shown}
 

@@ -3,7 +3,7 @@ use Rattle.std.proofs.Common.{◌≡◌, ℕ, zero, suc, ◌+◌, ◌*◌, ◌-�
 use Rattle.std.specs.Prelude.{unwrap_or, is_some, not}
 use Rattle.std.specs.Borrow.{Bor}
 use Rattle.std.specs.List.{slice_split, position_or_len, list_all}
-use Rattle.std.proofs.lemmas.List.{append_assoc, append-nil, take_all, take_more_set, length-drop, length-set, drop-drop, length-map}
+use Rattle.std.proofs.lemmas.List.{append_assoc, take_all, take_more_set, length-drop, length-set, drop-drop, length-map}
 use Rattle.std.proofs.lemmas.List.Splits.{slice_split_first}
 use Rattle.text_lines.specs.Lines.{lines_from}
 use Rattle.text_lines.specs.Number.{number_of}

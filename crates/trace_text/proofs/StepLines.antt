@@ -1,16 +1,14 @@
 -- Step lines from their words.
-use Rattle.std.proofs.Common.{◌≡◌, ℕ, ◌+◌, ◌<◌, ◌||◌, ◌&&◌, Bool, true, false, List, [], ◌∷◌, ◌++◌, length, take, map, get_or, refl, sym, ap, subst, ◌∙◌, arith}
+use Rattle.std.proofs.Common.{◌≡◌, ℕ, ◌<◌, ◌||◌, Bool, true, false, List, [], ◌∷◌, take, map, get_or, refl, sym, ap, subst, ◌∙◌, arith}
 use Rattle.std.specs.Prelude.{codes, bytes_eq}
 use Rattle.std.proofs.lemmas.Bool.{and_from}
 use Rattle.std.proofs.lemmas.List.{get_or-take}
 use Rattle.trace_text.specs.declared.step_list.Step.{Step}
 use Rattle.trace_text.specs.declared.step_list.Step.TheVariants.{Diag, Flip, Tri}
 use Rattle.trace_text.specs.declared.limits.TheConstants.{MOST_STEP_NUMBER}
-use Rattle.trace_text.specs.TraceText.{step_line}
-use Rattle.trace_text.specs.TraceFault.{between_spaces, are_numbers, is_lettered, is_step_line}
-use Rattle.trace_text.specs.ClaimTexts.{IsTraceStep}
+use Rattle.trace_text.specs.TraceFault.{between_spaces, are_numbers, is_lettered}
 use Rattle.trace_text.proofs.LineNumbers.{value, write_values}
-use Rattle.trace_text.proofs.LineReadings.{is_step, step_of, step_in, step_back, IsLineOf}
+use Rattle.trace_text.proofs.LineReadings.{is_step, step_of, step_back, IsLineOf}
 
 or-left : (a b c : Bool) → a ≡ true → (a || b || c) ≡ true
 or-left true b c e = refl

@@ -1,16 +1,14 @@
 -- Steps that are read line by line.
-use Rattle.std.proofs.Common.{◌≡◌, ℕ, zero, suc, ◌+◌, ◌<◌, ◌≤◌, ◌^◌, Bool, true, false, cond, List, [], ◌∷◌, ◌++◌, length, map, Option, Some, None, refl, sym, ap, ◌∙◌, arith}
+use Rattle.std.proofs.Common.{◌≡◌, ℕ, ◌+◌, ◌≤◌, Bool, false, cond, List, [], ◌∷◌, ◌++◌, length, map, Option, Some, None, sym, ap, ◌∙◌, arith}
 use Rattle.std.specs.Prelude.{codes, bytes_eq}
 use Rattle.std.specs.List.{AllByRecursion}
-use Rattle.std.proofs.lemmas.List.{append_assoc, map-append, length-append, append-nil}
+use Rattle.std.proofs.lemmas.List.{append_assoc, map-append, length-append}
 use Rattle.pair_colours.proofs.ListLemmas.{Each-append}
 use Rattle.trace_text.specs.declared.step_list.Step.{Step}
-use Rattle.trace_text.specs.declared.trace_faults.TraceWord.{TraceWord}
-use Rattle.trace_text.specs.declared.trace_faults.TraceWord.TheVariants.{Body}
 use Rattle.trace_text.specs.TraceText.{step_line}
-use Rattle.trace_text.specs.TraceFault.{Place, at_body, is_step_line, next_row, next_closure_row, next_place, fault_from, fault_on, word_at}
+use Rattle.trace_text.specs.TraceFault.{Place, at_body, is_step_line, next_row, next_closure_row, next_place, fault_from, fault_on}
 use Rattle.trace_text.specs.ClaimTexts.{IsTraceStep}
-use Rattle.trace_text.proofs.LineReadings.{step_good, step_other, bytes_same}
+use Rattle.trace_text.proofs.LineReadings.{step_good, step_other}
 
 -- these steps were read, and nothing that ends them
 pub record ReadsSteps (line0 : ℕ) (lines0 : List (List ℕ)) (line : ℕ) (lines : List (List ℕ)) (steps : List Step) : Type 0 where

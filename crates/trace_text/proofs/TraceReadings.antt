@@ -1,13 +1,13 @@
 -- Each text has one reading or one fault.
-use Rattle.std.proofs.Common.{◌≡◌, ℕ, ◌+◌, List, [], ◌∷◌, ◌++◌, length, drop, map, get_or, Option, Some, None, refl, sym, ap, subst, ◌∙◌, arith, ◌⊎◌, inl, inr}
-use Rattle.std.specs.Prelude.{codes, MatchOption}
+use Rattle.std.proofs.Common.{◌≡◌, ℕ, ◌+◌, List, [], ◌∷◌, length, drop, map, get_or, Option, Some, None, refl, sym, ap, subst, ◌∙◌, arith, ◌⊎◌, inl, inr}
+use Rattle.std.specs.Prelude.{MatchOption}
 use Rattle.text_lines.specs.Lines.{lines_of}
 use Rattle.trace_text.specs.declared.stage_list.Claim.{Claim}
 use Rattle.trace_text.specs.declared.trace_faults.TraceWord.{TraceWord}
-use Rattle.trace_text.specs.TraceText.{trace_lines, trace_text}
+use Rattle.trace_text.specs.TraceText.{trace_text}
 use Rattle.trace_text.specs.TraceFault.{Place, at_head, at_points, at_stage, at_row, at_body, at_closure_row, at_end, at_extra, next_place, fault_from, fault_on, word_at, trace_fault}
 use Rattle.trace_text.specs.ClaimTexts.{FitsTrace, AreTraceLines, IsTraceText}
-use Rattle.trace_text.proofs.LinesLeft.{Left, nothing, decode, decode_on, decode_line, shown, Fits, Forward, forward, Back, BackTo}
+use Rattle.trace_text.proofs.LinesLeft.{Left, decode, decode_on, decode_line, shown, Fits, forward}
 use Rattle.trace_text.proofs.LinesBack.{InRange, back, next_in_range}
 use Rattle.trace_text.proofs.ClaimLines.{left_of, claim_of, claim_fits, fits_claim, claim_lines}
 use Rattle.trace_text.proofs.LineBytes.{text_lines}

@@ -1,15 +1,15 @@
 -- Texts that are written line by line.
-use Rattle.std.proofs.Common.{◌≡◌, ℕ, ◌+◌, ◌<◌, List, [], ◌∷◌, ◌++◌, length, map, take, get_or, refl, sym, ap, ◌∙◌, arith}
+use Rattle.std.proofs.Common.{◌≡◌, ℕ, ◌+◌, List, [], ◌∷◌, ◌++◌, map, take, refl, sym, ap, ◌∙◌}
 use Rattle.std.specs.Prelude.{codes, decimal, slice_get, Some}
 use Rattle.std.specs.List.{flat_map}
-use Rattle.std.proofs.lemmas.List.{append_assoc, append-nil, take_more, map-append, take_all}
+use Rattle.std.proofs.lemmas.List.{append_assoc, append-nil, take_more, map-append}
 use Rattle.std.proofs.lemmas.Option.{slice_get_within, get_or_from_slice_get}
 use Rattle.relation_text.specs.Written.{matrix_row, matrix_rows}
 use Rattle.pair_colours.specs.Colouring.{PairColouring, points}
 use Rattle.trace_text.specs.declared.step_list.Step.{Step}
 use Rattle.trace_text.specs.declared.stage_list.Stage.{Stage}
 use Rattle.trace_text.specs.declared.stage_list.Claim.{Claim}
-use Rattle.trace_text.specs.TraceText.{lines_text, step_line, matrix_lines, stage_lines, trace_lines, trace_text}
+use Rattle.trace_text.specs.TraceText.{lines_text, step_line, matrix_lines, stage_lines, trace_text}
 
 pub lines_text-append : (xs ys : List (List ℕ)) → lines_text (xs ++ ys) ≡ lines_text xs ++ lines_text ys
 lines_text-append [] ys = refl

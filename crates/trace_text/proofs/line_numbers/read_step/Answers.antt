@@ -1,4 +1,4 @@
-use Rattle.std.proofs.Common.{◌≡◌, true, sym, ap, ◌∙◌, rules, tests}
+use Rattle.std.proofs.Common.{◌≡◌, true, rules, tests}
 use Rattle.std.specs.Prelude.{codes, bytes_eq}
 use Rattle.trace_text.specs.Reading.{words_left}
 use Rattle.trace_text.proofs.StepLines.{diag_read, flip_read, tri_read}

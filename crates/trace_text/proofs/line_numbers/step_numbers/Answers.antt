@@ -1,4 +1,4 @@
-use Rattle.std.proofs.Common.{◌<◌, sym, ap, ◌∙◌, arith, refl}
+use Rattle.std.proofs.Common.{sym, ap, ◌∙◌, arith}
 use Rattle.trace_text.specs.declared.limits.TheConstants.{MOST_STEP_NUMBER}
 use Rattle.trace_text.specs.Reading.{words_left}
 use Rattle.trace_text.proofs.StepNumbers.{numbers_more, numbers_end}

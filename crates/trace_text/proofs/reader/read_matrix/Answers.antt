@@ -1,5 +1,4 @@
-use Rattle.std.proofs.Common.{◌≡◌, ◌+◌, ◌*◌, ◌++◌, ◌<◌, true, take, ap, sym, subst, ◌∙◌, arith, rules, tests}
-use Rattle.std.specs.Prelude.{not}
+use Rattle.std.proofs.Common.{◌≡◌, ◌+◌, ◌*◌, ◌++◌, true, take, ap, sym, subst, ◌∙◌, arith, rules, tests}
 use Rattle.trace_text.specs.TraceFault.{is_row_line}
 use Rattle.trace_text.specs.Reading.{numbers_on}
 use Rattle.trace_text.proofs.MatrixRows.{rows_more, rows_all}

@@ -1,6 +1,5 @@
-use Rattle.std.proofs.Common.{ap, length, map, arith}
+use Rattle.std.proofs.Common.{ap, length, arith}
 use Rattle.std.proofs.lemmas.List.{length-map}
-use Rattle.text_lines.specs.Lines.{lines_of}
 use Rattle.trace_text.proofs.RowWords.{few_lines}
 use Rattle.trace_text.proofs.trace_cursor.TraceCursor.new.Goals as goal
 

@@ -15,7 +15,7 @@ pub mod ListReads
 pub mod FirstPair
 mod Meets
 pub mod NumberedLists
-mod Writes
+pub mod Writes
 mod SquareRows
 pub mod Reaching
 pub mod WalkPlaces

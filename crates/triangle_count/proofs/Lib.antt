@@ -1,2 +1,2 @@
-pub mod Tallies
+mod Tallies
 pub mod RowLemmas

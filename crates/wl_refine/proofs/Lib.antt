@@ -1,7 +1,7 @@
-pub mod Sorting
-pub mod Codes
-pub mod Numbers
-pub mod Filled
-pub mod Hashes
-pub mod Transposes
-pub mod Steps
+mod Sorting
+mod Codes
+mod Numbers
+mod Filled
+mod Hashes
+mod Transposes
+mod Steps

@@ -1,139 +1,176 @@
-use crate::{Act, GraphForm, ScriptFault, ScriptWord, read_script};
-use pair_colours::Numbers;
+use crate::*;
 use std::alloc::Global;
 use std::test::Fail;
 
-// The words that ask for an act, with single spaces.
-fn spelled(alloc: Global, act: &Act) -> Result<String, Fail> {
-    let mut text = String::new(alloc);
+// The first words of the line that asks for an act, or the file of a direct product.
+fn name_of(act: &Act) -> &[u8] {
     match act {
-        Act::Set { x, y, colour } => write!(text, "set {x} {y} {colour}")?,
-        Act::Both { x, y, colour } => write!(text, "both {x} {y} {colour}")?,
-        Act::Fix { x } => write!(text, "fix {x}")?,
-        Act::Join { keep, gone } => write!(text, "join keep {keep} gone {gone}")?,
-        Act::Adopt => text.push_str("adopt")?,
-        Act::Fuse { string } => listed(&mut text, "fuse", string)?,
-        Act::Direct { file } => write!(text, "direct {}", file.as_str())?,
-        Act::Wreath { file } => write!(text, "wreath {}", file.as_str())?,
-        Act::Undo => text.push_str("undo")?,
-        Act::Redo => text.push_str("redo")?,
-        Act::Show => text.push_str("show")?,
-        Act::Raw => text.push_str("raw")?,
-        Act::Classes => text.push_str("classes")?,
-        Act::Constants => text.push_str("constants")?,
-        Act::Tests => text.push_str("tests")?,
-        Act::Array { set } => listed(&mut text, "array", set)?,
-        Act::Closed => text.push_str("closed")?,
-        Act::Quotient { set } => listed(&mut text, "quotient", set)?,
-        Act::Sub { x, set } => {
-            write!(text, "sub {x} of")?;
-            listed(&mut text, "", set)?;
-        }
-        Act::Close { string } => listed(&mut text, "close", string)?,
-        Act::Good => text.push_str("good")?,
-        Act::Mergings { most, after } => {
-            write!(text, "mergings {most}")?;
-            if let Some(after) = after {
-                listed(&mut text, " after", after)?;
-            }
-        }
-        Act::Trace => text.push_str("trace")?,
-        Act::Write { form, set } => {
-            let head = match form {
-                GraphForm::Graph6 => "graph6",
-                GraphForm::Digraph6 => "digraph6",
-            };
-            listed(&mut text, head, set)?;
-        }
+        Act::Set { .. } => b"set",
+        Act::Both { .. } => b"both",
+        Act::Fix { .. } => b"fix",
+        Act::Join { .. } => b"join",
+        Act::Adopt => b"adopt",
+        Act::Fuse { .. } => b"fuse",
+        Act::Direct { file } => file.as_str().as_bytes(),
+        Act::Wreath { .. } => b"wreath",
+        Act::Undo => b"undo",
+        Act::Redo => b"redo",
+        Act::Show => b"show",
+        Act::Raw => b"raw",
+        Act::Classes => b"classes",
+        Act::Constants => b"constants",
+        Act::Tests => b"tests",
+        Act::Array { .. } => b"array",
+        Act::Closed => b"closed",
+        Act::Quotient { .. } => b"quotient",
+        Act::Sub { .. } => b"sub",
+        Act::Close { .. } => b"close",
+        Act::Good => b"good",
+        Act::Mergings { after: None, .. } => b"mergings",
+        Act::Mergings { .. } => b"mergings after",
+        Act::Trace => b"trace",
+        Act::Write {
+            form: GraphForm::Graph6,
+            ..
+        } => b"write graph6",
+        Act::Write {
+            form: GraphForm::Digraph6,
+            ..
+        } => b"write digraph6",
     }
-    Ok(text)
 }
 
-fn listed(text: &mut String, head: &str, numbers: &Numbers) -> Result<(), Fail> {
-    text.push_str(head)?;
-    for number in numbers.as_slice() {
-        write!(text, " {number}")?;
+// Whether an act asks for these numbers, in the order of its fields.
+fn has_numbers(act: &Act, numbers: &[u32]) -> bool {
+    match act {
+        Act::Set { x, y, colour } | Act::Both { x, y, colour } => {
+            numbers == [*x, *y, *colour].as_slice()
+        }
+        Act::Fix { x } => numbers == [*x].as_slice(),
+        Act::Join { keep, gone } => numbers == [*keep, *gone].as_slice(),
+        Act::Fuse { string } | Act::Close { string } => numbers == string.as_slice(),
+        Act::Array { set } | Act::Quotient { set } | Act::Write { set, .. } => {
+            numbers == set.as_slice()
+        }
+        Act::Sub { x, set } => is_joined(numbers, *x, set.as_slice()),
+        Act::Mergings { most, after } => match after {
+            Some(after) => is_joined(numbers, *most, after.as_slice()),
+            None => numbers == [*most].as_slice(),
+        },
+        _ => numbers.is_empty(),
     }
-    Ok(())
+}
+
+// Whether an act is asked for by these words and numbers.
+fn is_act(act: &Act, name: &[u8], numbers: &[u32]) -> bool {
+    name_of(act) == name && has_numbers(act, numbers)
+}
+
+// Whether the numbers are a first one and others.
+fn is_joined(numbers: &[u32], first: u32, others: &[u32]) -> bool {
+    match numbers {
+        [number, rest @ ..] => *number == first && rest == others,
+        [] => false,
+    }
 }
 
 // Each act, between blanks, tabs, comments and line ends of both sorts.
+const SCRIPT: &[u8] =
+    b"set 0 1 2\n\tboth  3\t4 65536 \r\n# a comment\n\n \t\nfix 4294967295\njoin 9 1\nadopt\n\
+    fuse 0 1 1 2\ndirect #f\nwreath a-b\n  # set 1\nundo\nredo\nshow\nraw\nclasses\nconstants\ntests\n\
+    array 1\nclosed\nquotient 0 3\nsub 8 0 2\nclose 0 1 2 2\ngood\nmergings 10000\n\
+    mergings 2 after 0 1 1 2\ntrace\nwrite graph6 1\nwrite digraph6 2 1 1\r";
+
+const LINES: [(u32, &[u8]); 26] = [
+    (1, b"set"),
+    (2, b"both"),
+    (6, b"fix"),
+    (7, b"join"),
+    (8, b"adopt"),
+    (9, b"fuse"),
+    (10, b"#f"),
+    (11, b"wreath"),
+    (13, b"undo"),
+    (14, b"redo"),
+    (15, b"show"),
+    (16, b"raw"),
+    (17, b"classes"),
+    (18, b"constants"),
+    (19, b"tests"),
+    (20, b"array"),
+    (21, b"closed"),
+    (22, b"quotient"),
+    (23, b"sub"),
+    (24, b"close"),
+    (25, b"good"),
+    (26, b"mergings"),
+    (27, b"mergings after"),
+    (28, b"trace"),
+    (29, b"write graph6"),
+    (30, b"write digraph6"),
+];
+
+// The numbers on the line with this number.
+fn numbers_on(line: u32) -> &'static [u32] {
+    match line {
+        1 => &[0, 1, 2],
+        2 => &[3, 4, 65_536],
+        6 => &[4_294_967_295],
+        7 => &[9, 1],
+        9 => &[0, 1, 1, 2],
+        20 | 29 => &[1],
+        22 => &[0, 3],
+        23 => &[8, 0, 2],
+        24 => &[0, 1, 2, 2],
+        26 => &[10_000],
+        27 => &[2, 0, 1, 1, 2],
+        30 => &[2, 1, 1],
+        _ => &[],
+    }
+}
+
 #[test]
 fn reads_each_act(rt: HostRuntime) -> Result<(), Fail> {
-    let text =
-        "set 0 1 2\n\tboth  3\t4 65536 \r\n# a comment\n\n \t\nfix 4294967295\njoin 9 1\nadopt\n\
-        fuse 0 1 1 2\ndirect #x\nwreath a-b\n  # set 1\nundo\nredo\nshow\nraw\nclasses\nconstants\ntests\n\
-        array 1\nclosed\nquotient 0 3\nsub 8 0 2\nclose 0 1 2 2\ngood\nmergings 10000\n\
-        mergings 2 after 0 1 1 2\ntrace\nwrite graph6 1\nwrite digraph6 2 1 1\r";
-    let expected = [
-        (1, "set 0 1 2"),
-        (2, "both 3 4 65536"),
-        (6, "fix 4294967295"),
-        (7, "join keep 9 gone 1"),
-        (8, "adopt"),
-        (9, "fuse 0 1 1 2"),
-        (10, "direct #x"),
-        (11, "wreath a-b"),
-        (13, "undo"),
-        (14, "redo"),
-        (15, "show"),
-        (16, "raw"),
-        (17, "classes"),
-        (18, "constants"),
-        (19, "tests"),
-        (20, "array 1"),
-        (21, "closed"),
-        (22, "quotient 0 3"),
-        (23, "sub 8 of 0 2"),
-        (24, "close 0 1 2 2"),
-        (25, "good"),
-        (26, "mergings 10000"),
-        (27, "mergings 2 after 0 1 1 2"),
-        (28, "trace"),
-        (29, "graph6 1"),
-        (30, "digraph6 2 1 1"),
-    ];
-    assert!(rt; text.len() <= 1_048_576);
-    let script = read_script(rt.alloc(), text.as_bytes())?;
-    assert_eq!(rt; script.len(), expected.len());
-    for (line, (number, words)) in script.iter().zip(expected) {
+    assert!(rt; SCRIPT.len() <= MOST_SCRIPT as usize);
+    let script = read_script(rt.alloc(), SCRIPT)?;
+    assert_eq!(rt; script.len(), LINES.len());
+    for (line, (number, name)) in script.iter().zip(LINES) {
         assert_eq!(rt; line.number, number);
-        let act = spelled(rt.alloc(), &line.act)?;
-        assert_eq!(rt; act.as_str(), words);
+        assert!(rt; is_act(&line.act, name, numbers_on(number)), "{number}");
     }
     Ok(())
 }
 
 #[test]
 fn names_the_first_fault(rt: HostRuntime) {
-    let cases = [
-        ("shwo\n", 1, ScriptWord::UnknownWord),
-        ("show\nmergings 0\n", 2, ScriptWord::BadLimit),
-        ("mergings 10001", 1, ScriptWord::BadLimit),
-        ("mergings", 1, ScriptWord::WrongCount),
-        ("mergings 5 after", 1, ScriptWord::WrongCount),
-        ("mergings 5 5", 1, ScriptWord::UnknownWord),
-        ("mergings 0 after x", 1, ScriptWord::BadNumber),
-        ("write", 1, ScriptWord::WrongCount),
-        ("write 0", 1, ScriptWord::UnknownWord),
-        ("write graph6", 1, ScriptWord::WrongCount),
-        ("direct -", 1, ScriptWord::BadName),
-        ("wreath", 1, ScriptWord::WrongCount),
-        ("set 1 2", 1, ScriptWord::WrongCount),
-        ("sub 1", 1, ScriptWord::WrongCount),
-        ("show 1", 1, ScriptWord::WrongCount),
-        ("\n# x\r\nfix 01", 3, ScriptWord::BadNumber),
-        ("fuse 0 4294967296", 1, ScriptWord::BadNumber),
-        ("set x 2\nshwo", 1, ScriptWord::WrongCount),
-        ("show # x", 1, ScriptWord::WrongCount),
-        ("show\r\r\n", 1, ScriptWord::BadByte),
-        ("# \u{7f}", 1, ScriptWord::BadByte),
-        ("\u{b}\n", 1, ScriptWord::BadByte),
+    let cases: [(&[u8], u32, ScriptWord); 22] = [
+        (b"shwo\n", 1, ScriptWord::UnknownWord),
+        (b"show\nmergings 0\n", 2, ScriptWord::BadLimit),
+        (b"mergings 4294967295", 1, ScriptWord::BadLimit),
+        (b"mergings", 1, ScriptWord::WrongCount),
+        (b"mergings 5 after", 1, ScriptWord::WrongCount),
+        (b"mergings 5 5", 1, ScriptWord::UnknownWord),
+        (b"mergings 0 after x", 1, ScriptWord::BadNumber),
+        (b"write", 1, ScriptWord::WrongCount),
+        (b"write 0", 1, ScriptWord::UnknownWord),
+        (b"write graph6", 1, ScriptWord::WrongCount),
+        (b"direct -", 1, ScriptWord::BadName),
+        (b"wreath", 1, ScriptWord::WrongCount),
+        (b"set 1 2", 1, ScriptWord::WrongCount),
+        (b"sub 1", 1, ScriptWord::WrongCount),
+        (b"show 1", 1, ScriptWord::WrongCount),
+        (b"\n# x\r\nfix 01", 3, ScriptWord::BadNumber),
+        (b"fuse 0 4294967296", 1, ScriptWord::BadNumber),
+        (b"set x 2\nshwo", 1, ScriptWord::WrongCount),
+        (b"show # x", 1, ScriptWord::WrongCount),
+        (b"show\r\r\n", 1, ScriptWord::BadByte),
+        (b"# \x7f", 1, ScriptWord::BadByte),
+        (b"\x0b\n", 1, ScriptWord::BadByte),
     ];
     for (text, line, what) in cases {
-        assert!(rt; text.len() <= 1_048_576);
-        let fault = read_script(rt.alloc(), text.as_bytes()).err();
-        assert_eq!(rt; fault, Some(ScriptFault::Text { line, what }), "{text:?}");
+        assert!(rt; text.len() <= MOST_SCRIPT as usize);
+        let fault = read_script(rt.alloc(), text).err();
+        assert_eq!(rt; fault, Some(ScriptFault::Text { line, what }), "{line}");
     }
 }
 
@@ -149,32 +186,20 @@ fn repeated(alloc: Global, line: &str, times: u32, last: &str) -> Result<String,
 
 #[test]
 fn counts_lines_and_products(rt: HostRuntime) -> Result<(), Fail> {
+    let many = Some((MOST_LINES + 1, ScriptWord::TooManyLines));
+    let products = Some((MOST_PRODUCTS + 1, ScriptWord::TooManyProducts));
+    let bad_name = Some((MOST_PRODUCTS + 1, ScriptWord::BadName));
     let cases = [
-        ("\n", 10_000, "", None),
-        ("\n", 10_000, "\n", Some((10_001, ScriptWord::TooManyLines))),
-        (
-            "# x\n",
-            10_000,
-            "\u{7f}",
-            Some((10_001, ScriptWord::TooManyLines)),
-        ),
-        ("direct F\n", 63, "#\nwreath F", None),
-        (
-            "direct F\n",
-            64,
-            "wreath F",
-            Some((65, ScriptWord::TooManyProducts)),
-        ),
-        (
-            "wreath F\n",
-            64,
-            "direct -",
-            Some((65, ScriptWord::BadName)),
-        ),
+        ("\n", MOST_LINES, "", None),
+        ("\n", MOST_LINES, "\n", many),
+        ("# x\n", MOST_LINES, "\u{7f}", many),
+        ("direct F\n", MOST_PRODUCTS - 1, "#\nwreath F", None),
+        ("direct F\n", MOST_PRODUCTS, "wreath F", products),
+        ("wreath F\n", MOST_PRODUCTS, "direct -", bad_name),
     ];
     for (line, times, last, expected) in cases {
         let text = repeated(rt.alloc(), line, times, last)?;
-        assert!(rt; text.len() <= 1_048_576);
+        assert!(rt; text.len() <= MOST_SCRIPT as usize);
         let fault = read_script(rt.alloc(), text.as_bytes()).err();
         let expected = expected.map(|(line, what)| ScriptFault::Text { line, what });
         assert_eq!(rt; fault, expected);

@@ -1,5 +1,0 @@
-use Rattle.script_text.proofs.LawProofs.{limits}
-use Rattle.script_text.proofs.laws.limits.Goals as goal
-
-pub returns : goal.returns
-returns c = limits

@@ -10,3 +10,5 @@ pub mod TraceText
 pub mod ClaimTexts
 pub mod TraceFault
 pub mod Reading
+pub mod TraceWord
+pub mod CheckWord

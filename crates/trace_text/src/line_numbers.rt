@@ -16,7 +16,8 @@ use text_lines::read_number;
 
 // The number that a word is, if it is no greater than the limit.
 fn number_to(word: &[u8], limit: u32) -> Option<u32>
-    ensures { MatchOption result (is_number_to limit word.now ≡ false) (λ n. (is_number_to limit word.now ≡ true) × (number_of word.now ≡ Some n)) }
+    ensures { MatchOption result (is_number_to limit word.now ≡ false)
+        (λ n. (is_number_to limit word.now ≡ true) × (number_of word.now ≡ Some n)) }
 {
     match read_number(word) {
         Some(number) if number <= limit => Some(number),
@@ -51,7 +52,8 @@ pub(crate) fn read_row(colouring: &mut Colouring, x: u32, line: &[u8]) -> bool
     ensures test { result ≡ is_row_line colouring.old.size line.now }
     ensures points { colouring.new.size ≡ colouring.old.size }
     ensures colouring { IsColouring colouring.new }
-    ensures row { result ≡ true → take (x * colouring.old.size + colouring.old.size) colouring.new.colours ≡ take (x * colouring.old.size) colouring.old.colours ++ numbers_on line.now }
+    ensures row { result ≡ true → take (x * colouring.old.size + colouring.old.size) colouring.new.colours
+        ≡ take (x * colouring.old.size) colouring.old.colours ++ numbers_on line.now }
 {
     let mut rest = Some(line);
     for y in 0..colouring.size() {
@@ -99,7 +101,8 @@ pub(crate) fn read_step(line: &[u8]) -> Option<Step>
 fn step_numbers(rest: Option<&[u8]>, count: u32) -> Option<[u32; 3]>
     requires { count ≤ 3 }
     ensures { MatchOption result (are_numbers MOST_STEP_NUMBER count (words_left rest.entry) ≡ false)
-        (λ numbers. (are_numbers MOST_STEP_NUMBER count (words_left rest.entry) ≡ true) × (take count numbers ≡ map (λ word. unwrap_or (number_of word) 0) (words_left rest.entry))) }
+        (λ numbers. (are_numbers MOST_STEP_NUMBER count (words_left rest.entry) ≡ true)
+        × (take count numbers ≡ map (λ word. unwrap_or (number_of word) 0) (words_left rest.entry))) }
 {
     let mut numbers = [0; 3];
     let mut left = rest;

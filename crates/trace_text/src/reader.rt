@@ -19,8 +19,67 @@ use crate::trace_faults::{TraceFault, TraceWord};
 use pair_colours::Colouring;
 use std::alloc::Global;
 
+/// Reads a trace: the claim whose text this is.
+///
+/// The fault is at the first line that may not stand in its place, or on the line after the last if
+/// the text ends too early, with the word for what was expected.
+pub fn read_trace(alloc: Global, bytes: &[u8]) -> Result<Claim, TraceFault>
+    requires { length bytes.now ≤ MOST_TRACE }
+    ensures claim { IfOk result (λ claim. IsTraceText bytes.now claim) }
+    ensures clean { OnOk result (trace_fault bytes.now ≡ None) }
+    ensures fault { IfErr result (λ fault. IsFaultOf fault (trace_fault bytes.now)) }
+{
+    let mut cursor = TraceCursor::new(bytes);
+    let size = read_head(&mut cursor)?;
+    let chain = read_chain(alloc, &mut cursor, size)?;
+    let closure = read_matrix(alloc, &mut cursor, size)?;
+    read_end(&mut cursor)?;
+    Ok(Claim { chain, closure })
+}
+
+// Reads the lines before the rows of the first stage, and gives the number of points.
+fn read_head(cursor: &mut TraceCursor<'_>) -> Result<u32, TraceFault>
+    ensures lines { IfOk result (λ n. cursor.old.lines
+        ≡ codes "trace 1" ∷ (codes "points " ++ decimal n) ∷ codes "stage" ∷ cursor.new.lines) }
+    ensures some { IfOk result (λ n. 1 ≤ n) }
+    ensures few { IfOk result (λ n. n ≤ MOST_POINTS) }
+    ensures clean { IfOk result (λ n. fault_from cursor.old.line at_head cursor.old.lines
+        ≡ fault_from cursor.new.line (next_row n n) cursor.new.lines) }
+    ensures fault { IfErr result (λ fault. IsFaultOf fault (fault_from cursor.old.line at_head cursor.old.lines)) }
+{
+    cursor.fixed(b"trace 1", TraceWord::Head)?;
+    let size = cursor.points()?;
+    cursor.fixed(b"stage", TraceWord::Stage)?;
+    Ok(size)
+}
+
+// Reads the stages after the line of the first, and the line of the closure.
+fn read_chain(alloc: Global, cursor: &mut TraceCursor<'_>, size: u32) -> Result<Chain, TraceFault>
+    requires some { 1 ≤ size }
+    requires few { size ≤ MOST_POINTS }
+    ensures lines { IfOk result (λ chain. codes "stage" ∷ cursor.old.lines
+        ≡ flat_map stage_lines chain ++ (codes "closure" ∷ cursor.new.lines)) }
+    ensures stages { IfOk result (λ chain. AllByRecursion (IsTraceStage size) chain) }
+    ensures some { IfOk result (λ chain. 1 ≤ length chain) }
+    ensures clean { OnOk result (fault_from cursor.old.line (next_row size size) cursor.old.lines
+        ≡ fault_from cursor.new.line (next_closure_row size size) cursor.new.lines) }
+    ensures fault { IfErr result
+        (λ fault. IsFaultOf fault (fault_from cursor.old.line (next_row size size) cursor.old.lines)) }
+{
+    let mut chain = Chain::new(alloc);
+    loop {
+        let colours = read_matrix(alloc, cursor, size)?;
+        let (steps, after) = read_steps(alloc, cursor)?;
+        chain.push(Stage { colours, steps })?;
+        match after {
+            After::Stage => {}
+            After::Closure => return Ok(chain),
+        }
+    }
+}
+
 // Reads the rows of a matrix.
-pub(crate) fn read_matrix(
+fn read_matrix(
     alloc: Global,
     cursor: &mut TraceCursor<'_>,
     size: u32,
@@ -32,7 +91,8 @@ pub(crate) fn read_matrix(
     ensures raw { IfOk result (λ c. IsRawColouring c) }
     ensures number { OnOk result (cursor.new.line ≡ cursor.old.line + size) }
     ensures clean { OnOk result (rows_fault size size cursor.old.line cursor.old.lines ≡ None) }
-    ensures fault { IfErr result (λ fault. IsFaultOf fault (option_map (λ line. (line, words.Row)) (rows_fault size size cursor.old.line cursor.old.lines))) }
+    ensures fault { IfErr result (λ fault. IsFaultOf fault
+        (option_map (λ line. (line, words.Row)) (rows_fault size size cursor.old.line cursor.old.lines))) }
 {
     let mut colours = Colouring::new(alloc, size, 0)?;
     for x in 0..size {
@@ -50,20 +110,20 @@ pub(crate) fn read_matrix(
 
 // What ends the steps of a stage.
 #[derive(Clone, Copy)]
-pub(crate) enum After {
+enum After {
     Stage,
     Closure,
 }
 
 // Reads the steps of a stage, and the line that ends them.
-pub(crate) fn read_steps(
-    alloc: Global,
-    cursor: &mut TraceCursor<'_>,
-) -> Result<(Steps, After), TraceFault>
-    ensures lines { IfOk result (λ found. cursor.old.lines ≡ map step_line found.0 ++ (after_line found.1 ∷ cursor.new.lines)) }
+fn read_steps(alloc: Global, cursor: &mut TraceCursor<'_>) -> Result<(Steps, After), TraceFault>
+    ensures lines { IfOk result
+        (λ found. cursor.old.lines ≡ map step_line found.0 ++ (after_line found.1 ∷ cursor.new.lines)) }
     ensures small { IfOk result (λ found. AllByRecursion IsTraceStep found.0) }
-    ensures clean { IfOk result (λ found. (n : ℕ) → fault_from cursor.old.line (at_body n) cursor.old.lines ≡ fault_from cursor.new.line (after_place n found.1) cursor.new.lines) }
-    ensures fault { IfErr result (λ fault. (n : ℕ) → IsFaultOf fault (fault_from cursor.old.line (at_body n) cursor.old.lines)) }
+    ensures clean { IfOk result (λ found. (n : ℕ)
+        → fault_from cursor.old.line (at_body n) cursor.old.lines ≡ fault_from cursor.new.line (after_place n found.1) cursor.new.lines) }
+    ensures fault { IfErr result
+        (λ fault. (n : ℕ) → IsFaultOf fault (fault_from cursor.old.line (at_body n) cursor.old.lines)) }
 {
     let mut steps = Steps::new(alloc);
     loop {
@@ -85,42 +145,6 @@ pub(crate) fn read_steps(
     }
 }
 
-// Reads the stages after the line of the first, and the line of the closure.
-fn read_chain(alloc: Global, cursor: &mut TraceCursor<'_>, size: u32) -> Result<Chain, TraceFault>
-    requires some { 1 ≤ size }
-    requires few { size ≤ MOST_POINTS }
-    ensures lines { IfOk result (λ chain. codes "stage" ∷ cursor.old.lines ≡ flat_map stage_lines chain ++ (codes "closure" ∷ cursor.new.lines)) }
-    ensures stages { IfOk result (λ chain. AllByRecursion (IsTraceStage size) chain) }
-    ensures some { IfOk result (λ chain. 1 ≤ length chain) }
-    ensures clean { OnOk result (fault_from cursor.old.line (next_row size size) cursor.old.lines ≡ fault_from cursor.new.line (next_closure_row size size) cursor.new.lines) }
-    ensures fault { IfErr result (λ fault. IsFaultOf fault (fault_from cursor.old.line (next_row size size) cursor.old.lines)) }
-{
-    let mut chain = Chain::new(alloc);
-    loop {
-        let colours = read_matrix(alloc, cursor, size)?;
-        let (steps, after) = read_steps(alloc, cursor)?;
-        chain.push(Stage { colours, steps })?;
-        match after {
-            After::Stage => {}
-            After::Closure => return Ok(chain),
-        }
-    }
-}
-
-// Reads the lines before the rows of the first stage, and gives the number of points.
-fn read_head(cursor: &mut TraceCursor<'_>) -> Result<u32, TraceFault>
-    ensures lines { IfOk result (λ n. cursor.old.lines ≡ codes "trace 1" ∷ (codes "points " ++ decimal n) ∷ codes "stage" ∷ cursor.new.lines) }
-    ensures some { IfOk result (λ n. 1 ≤ n) }
-    ensures few { IfOk result (λ n. n ≤ MOST_POINTS) }
-    ensures clean { IfOk result (λ n. fault_from cursor.old.line at_head cursor.old.lines ≡ fault_from cursor.new.line (next_row n n) cursor.new.lines) }
-    ensures fault { IfErr result (λ fault. IsFaultOf fault (fault_from cursor.old.line at_head cursor.old.lines)) }
-{
-    cursor.fixed(b"trace 1", TraceWord::Head)?;
-    let size = cursor.points()?;
-    cursor.fixed(b"stage", TraceWord::Stage)?;
-    Ok(size)
-}
-
 // Reads the last line.
 fn read_end(cursor: &mut TraceCursor<'_>) -> Result<(), TraceFault>
     ensures lines { OnOk result (cursor.old.lines ≡ codes "end" ∷ []) }
@@ -129,22 +153,4 @@ fn read_end(cursor: &mut TraceCursor<'_>) -> Result<(), TraceFault>
 {
     cursor.fixed(b"end", TraceWord::End)?;
     cursor.end()
-}
-
-/// Reads a trace: the claim whose text this is.
-///
-/// The fault is at the first line that may not stand in its place, or on the line after the last if
-/// the text ends too early, with the word for what was expected.
-pub fn read_trace(alloc: Global, bytes: &[u8]) -> Result<Claim, TraceFault>
-    requires { length bytes.now ≤ MOST_TRACE }
-    ensures claim { IfOk result (λ claim. IsTraceText bytes.now claim) }
-    ensures clean { OnOk result (trace_fault bytes.now ≡ None) }
-    ensures fault { IfErr result (λ fault. IsFaultOf fault (trace_fault bytes.now)) }
-{
-    let mut cursor = TraceCursor::new(bytes);
-    let size = read_head(&mut cursor)?;
-    let chain = read_chain(alloc, &mut cursor, size)?;
-    let closure = read_matrix(alloc, &mut cursor, size)?;
-    read_end(&mut cursor)?;
-    Ok(Claim { chain, closure })
 }

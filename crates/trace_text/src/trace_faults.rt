@@ -25,6 +25,25 @@ pub enum TraceWord {
     Extra,
 }
 
+impl TraceWord {
+    ghost use Rattle.trace_text.specs.TraceWord.{trace_word};
+
+    /// The word of the fault, which is the name of its variant.
+    pub fn as_str(self) -> &'static str
+        ensures { result.now ≡ trace_word self }
+    {
+        match self {
+            TraceWord::Head => "Head",
+            TraceWord::Points => "Points",
+            TraceWord::Stage => "Stage",
+            TraceWord::Row => "Row",
+            TraceWord::Body => "Body",
+            TraceWord::End => "End",
+            TraceWord::Extra => "Extra",
+        }
+    }
+}
+
 /// Why a text was not read as a trace.
 #[derive(Clone, Copy, Debug, PartialEq, Eq, Error)]
 pub enum TraceFault {

@@ -10,13 +10,15 @@ use relation_text::put_rows;
 use std::alloc::{AllocError, Global};
 use text_lines::Text;
 
-/// The text of the trace with these stages that claims this closure.
+/// The text of the trace with these stages that claims this closure. It is read back as that claim
+/// where there is a stage, all have the points of the closure, and all numbers are within the limits.
 pub fn write_trace(
     alloc: Global,
     stages: &[Stage],
     closure: &Colouring,
 ) -> Result<Vec<u8>, NoMemory>
-    ensures { IfOk result (λ text. text.items ≡ trace_text (record { chain = stages.now; closure = closure.now })) }
+    ensures { IfOk result
+        (λ text. text.items ≡ trace_text (record { chain = stages.now; closure = closure.now })) }
 {
     let mut text = Text::new(alloc);
     text.put_field(b"trace 1\npoints ", closure.size())?;

@@ -1,10 +1,17 @@
-use Rattle.std.proofs.Common.{◌+◌, inl, sym, subst, ◌∙◌}
+use Rattle.std.proofs.Common.{◌+◌, inl, sym, subst, ◌∙◌, arith}
+use Rattle.std.proofs.lemmas.List.{length-map}
 use Rattle.recolour_bench.specs.Edits.{edit_of}
 use Rattle.recolour_bench.specs.History.{History}
-use Rattle.recolour_bench.specs.Kept.{history_of}
+use Rattle.recolour_bench.specs.Kept.{entry_of, history_of}
 use Rattle.recolour_bench.specs.Steps.{EditStep}
 use Rattle.recolour_bench.proofs.Keeping.{EditStep-kept, IsPresentEntry-read, IsKeptHistory-edited, none_from_not}
 use Rattle.recolour_bench.proofs.history.Bench.edit.Goals as goal
+
+pub index-now-requires : goal.index-now-requires
+index-now-requires c = omega (arith, c.self.invariant.history.inside, length-map c.self.inside.kept.items entry_of)
+
+pub put_after-requires : goal.put_after-requires
+put_after-requires c = omega (arith, c.self.invariant.history.inside, length-map c.self.inside.kept.items entry_of)
 
 -- the edit is accepted
 step : (c : goal.After-self-1) → EditStep (history_of c.self.inside.kept.items c.self.inside.position) (edit_of c.args.edit.now) c.index-now.result.now.closure (history_of c.put_after.new.kept.items (c.self.inside.position + 1))

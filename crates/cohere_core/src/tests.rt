@@ -6,11 +6,10 @@ use std::alloc::{AllocError, Global};
 use std::process::Abort;
 use std::test::Fail;
 
+mod answered;
 mod failures;
-mod histories;
-mod queries;
+mod limits;
 mod refused;
-mod relations;
 
 fn words_of(alloc: Global, words: &[&str]) -> Result<Vec<String>, AllocError> {
     let mut all = Vec::new(alloc);
@@ -28,10 +27,30 @@ struct Outcome<'a> {
     line: &'a [u8],
 }
 
+// A run ends so; the row of a table is named where it does not.
+fn ends(
+    rt: &impl Abort,
+    alloc: Global,
+    row: usize,
+    words: &[&str],
+    store: &mut MemoryStore,
+    out: &mut MemorySink,
+    outcome: Outcome<'_>,
+) -> Result<(), Fail> {
+    let mut err = MemorySink::new(alloc, 5, 1000)?;
+    let words = words_of(alloc, words)?;
+    let answer = run(alloc, &words, store, out, &mut err);
+    assert_eq!(rt; answer, outcome.status, "row {row}");
+    assert_eq!(rt; out.written(), outcome.output, "row {row}");
+    assert_eq!(rt; err.written(), outcome.line, "row {row}");
+    Ok(())
+}
+
 // A run over the files R and S ends so.
 fn expect(
     rt: &impl Abort,
     alloc: Global,
+    row: usize,
     words: &[&str],
     relation: &[u8],
     script: &[u8],
@@ -41,19 +60,14 @@ fn expect(
     store.add("R", relation)?;
     store.add("S", script)?;
     let mut out = MemorySink::new(alloc, 1000, 100_000)?;
-    let mut err = MemorySink::new(alloc, 5, 1000)?;
-    let words = words_of(alloc, words)?;
-    let answer = run(alloc, &words, &mut store, &mut out, &mut err);
-    assert_eq!(rt; answer, outcome.status);
-    assert_eq!(rt; out.written(), outcome.output);
-    assert_eq!(rt; err.written(), outcome.line);
-    Ok(())
+    ends(rt, alloc, row, words, &mut store, &mut out, outcome)
 }
 
 // The script is answered over the relation.
 fn answers(
     rt: &impl Abort,
     alloc: Global,
+    row: usize,
     relation: &[u8],
     script: &[u8],
     output: &[u8],
@@ -63,13 +77,22 @@ fn answers(
         output,
         line: b"",
     };
-    expect(rt, alloc, &["run", "R", "S"], relation, script, outcome)
+    expect(
+        rt,
+        alloc,
+        row,
+        &["run", "R", "S"],
+        relation,
+        script,
+        outcome,
+    )
 }
 
 // One of the two texts is bad.
 fn refuses(
     rt: &impl Abort,
     alloc: Global,
+    row: usize,
     relation: &[u8],
     script: &[u8],
     line: &[u8],
@@ -79,5 +102,13 @@ fn refuses(
         output: b"",
         line,
     };
-    expect(rt, alloc, &["run", "R", "S"], relation, script, outcome)
+    expect(
+        rt,
+        alloc,
+        row,
+        &["run", "R", "S"],
+        relation,
+        script,
+        outcome,
+    )
 }

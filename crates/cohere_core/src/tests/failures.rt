@@ -1,67 +1,71 @@
 //! Stores and sinks that fail.
 
-use super::words_of;
-use crate::{Status, run};
+use super::{Outcome, ends};
+use crate::Status;
 use scheme_io::{MemorySink, MemoryStore};
+use std::alloc::Global;
 use std::test::Fail;
 
-const CUBE: &[u8] = b"Gr`HOk\n";
-
-#[test]
-fn a_sink_that_fails(rt: HostRuntime) -> Result<(), Fail> {
-    let alloc = rt.alloc();
+// A store with the cube for its relation, and a script that shows it.
+fn cube(alloc: Global) -> Result<MemoryStore, Fail> {
     let mut store = MemoryStore::new(alloc);
-    store.add("R", CUBE)?;
+    store.add("R", b"Gr`HOk\n")?;
     store.add("S", b"show\n")?;
-    let mut out = MemorySink::new(alloc, 16, 1000)?;
-    out.fail_at(1)?;
-    let mut err = MemorySink::new(alloc, 16, 1000)?;
-    let words = words_of(alloc, &["run", "R", "S"])?;
-    let answer = run(alloc, &words, &mut store, &mut out, &mut err);
-    assert_eq!(rt; answer, Status::SinkFailed);
-    assert_eq!(rt; answer.code(), 5);
-    assert_eq!(rt; out.written(), b"show points 8 ra".as_slice());
-    assert_eq!(rt; err.written(), b"".as_slice());
-    Ok(())
+    Ok(store)
 }
 
 #[test]
-fn a_script_that_is_not_there(rt: HostRuntime) -> Result<(), Fail> {
+fn failures(rt: HostRuntime) -> Result<(), Fail> {
     let alloc = rt.alloc();
-    let mut store = MemoryStore::new(alloc);
-    store.add("R", CUBE)?;
-    let mut out = MemorySink::new(alloc, 16, 1000)?;
-    let mut err = MemorySink::new(alloc, 16, 1000)?;
-    let words = words_of(alloc, &["run", "R", "S"])?;
-    let answer = run(alloc, &words, &mut store, &mut out, &mut err);
-    assert_eq!(rt; answer, Status::StoreFailed);
-    assert_eq!(rt; answer.code(), 4);
-    assert_eq!(rt; out.written(), b"".as_slice());
-    assert_eq!(rt; err.written(), b"cohere: cannot read S\n".as_slice());
-    Ok(())
-}
-
-#[test]
-fn a_store_that_fails(rt: HostRuntime) -> Result<(), Fail> {
-    let alloc = rt.alloc();
+    let words = ["run", "R", "S"];
     // Each load is a start, a read, and a read at the end.
     for call in 0..6u32 {
-        let mut store = MemoryStore::new(alloc);
-        store.add("R", CUBE)?;
-        store.add("S", b"show\n")?;
+        let mut store = cube(alloc)?;
         store.fail_at(call)?;
         let mut out = MemorySink::new(alloc, 16, 1000)?;
-        let mut err = MemorySink::new(alloc, 16, 1000)?;
-        let words = words_of(alloc, &["run", "R", "S"])?;
-        let answer = run(alloc, &words, &mut store, &mut out, &mut err);
-        assert_eq!(rt; answer, Status::StoreFailed);
-        assert_eq!(rt; out.written(), b"".as_slice());
-        let line = if call < 3 {
-            b"cohere: cannot read R\n"
-        } else {
-            b"cohere: cannot read S\n"
+        let outcome = Outcome {
+            status: Status::StoreFailed,
+            output: b"",
+            line: if call < 3 {
+                b"cohere: cannot read R\n"
+            } else {
+                b"cohere: cannot read S\n"
+            },
         };
-        assert_eq!(rt; err.written(), line.as_slice());
+        ends(
+            &rt,
+            alloc,
+            call as usize,
+            &words,
+            &mut store,
+            &mut out,
+            outcome,
+        )?;
     }
+    let mut out = MemorySink::new(alloc, 16, 1000)?;
+    let missing = Outcome {
+        status: Status::StoreFailed,
+        output: b"",
+        line: b"cohere: cannot read T\n",
+    };
+    ends(
+        &rt,
+        alloc,
+        6,
+        &["run", "R", "T"],
+        &mut cube(alloc)?,
+        &mut out,
+        missing,
+    )?;
+    assert_eq!(rt; Status::StoreFailed.code(), 4);
+    let mut out = MemorySink::new(alloc, 16, 1000)?;
+    out.fail_at(1)?;
+    let front = Outcome {
+        status: Status::SinkFailed,
+        output: b"show points 8 ra",
+        line: b"",
+    };
+    ends(&rt, alloc, 7, &words, &mut cube(alloc)?, &mut out, front)?;
+    assert_eq!(rt; Status::SinkFailed.code(), 5);
     Ok(())
 }

@@ -1,149 +1,79 @@
-//! Words and texts that are refused.
+//! Words and texts that are refused, each reason once.
 
-use super::{Outcome, answers, expect, refuses};
+use super::{Outcome, expect, refuses};
 use crate::Status;
 use std::test::Fail;
 
 const USAGE: &[u8] =
     b"usage: cohere run RELATION SCRIPT [LINE] | cohere check TRACE | cohere demo NUMBER\n";
 
+// Words that fit no form.
+const WORDS: [&[&str]; 7] = [
+    &["run", "R"],
+    &["run", "-", "-"],
+    &["run", "R", "S", "01"],
+    &["run", "R", "S", "0"],
+    &["run", "R", "S", "1000001"],
+    &["demo", "1", "2"],
+    &[],
+];
+
+// Files that are no relation on their first line.
+const RELATIONS: [(&[u8], &[u8]); 14] = [
+    (b"", b"cohere: R: NoLine at 0\n"),
+    (b":An\n", b"cohere: R: BadByte at 0\n"),
+    (b"~??D\n", b"cohere: R: SizeForm at 0\n"),
+    (b"?\n", b"cohere: R: NoPoints at 0\n"),
+    (b"~?AB\n", b"cohere: R: TooManyPoints at 0\n"),
+    (b"DQ\n", b"cohere: R: WrongLength at 2\n"),
+    (b"DQc?\n", b"cohere: R: WrongLength at 4\n"),
+    (b"DQd\n", b"cohere: R: PadBits at 2\n"),
+    (b"matrix x\n", b"cohere: R: MatrixHead at 0\n"),
+    (b"matrix 0\n", b"cohere: R: NoPoints at 7\n"),
+    (b"matrix 1\nx\n", b"cohere: R: BadByte at 9\n"),
+    (b"matrix 1\n07\n", b"cohere: R: MatrixNumber at 9\n"),
+    (b"matrix 2\n0 1\n1\n", b"cohere: R: MatrixCount at 14\n"),
+    (
+        b"matrix 1\n99999999999\n",
+        b"cohere: R: ColourTooLarge at 9\n",
+    ),
+];
+
+// Files that are no script, and one with an act that is not answered yet.
+const SCRIPTS: [(&[u8], &[u8]); 7] = [
+    (b"show\x01\n", b"cohere: S: line 1 BadByte\n"),
+    (b"shwo\n", b"cohere: S: line 1 UnknownWord\n"),
+    (b"show\nfix\n", b"cohere: S: line 2 WrongCount\n"),
+    (b"fix 01\n", b"cohere: S: line 1 BadNumber\n"),
+    (b"show\nmergings 0\n", b"cohere: S: line 2 BadLimit\n"),
+    (b"direct -\n", b"cohere: S: line 1 BadName\n"),
+    (b"show\n\ntrace\n", b"cohere: S: line 3 NotYet\n"),
+];
+
 #[test]
-fn words(rt: HostRuntime) -> Result<(), Fail> {
+fn words_and_texts_that_are_refused(rt: HostRuntime) -> Result<(), Fail> {
     let alloc = rt.alloc();
-    let refused: [&[&str]; 6] = [
-        &["run", "R"],
-        &["run", "-", "-"],
-        &["run", "R", "S", "01"],
-        &["run", "R", "S", "0"],
-        &["run", "R", "S", "1000001"],
-        &[],
-    ];
-    for words in refused {
+    for (row, words) in WORDS.iter().enumerate() {
         let outcome = Outcome {
             status: Status::Usage,
             output: b"",
             line: USAGE,
         };
-        expect(&rt, alloc, words, b"A_", b"show", outcome)?;
+        expect(&rt, alloc, row, words, b"A_", b"show", outcome)?;
     }
-    Ok(())
-}
-
-#[test]
-fn graph_lines(rt: HostRuntime) -> Result<(), Fail> {
-    let alloc = rt.alloc();
-    refuses(&rt, alloc, b"?\n", b"show", b"cohere: R: NoPoints at 0\n")?;
-    refuses(&rt, alloc, b"DQd\n", b"show", b"cohere: R: PadBits at 2\n")?;
-    refuses(
-        &rt,
-        alloc,
-        b"DQ\n",
-        b"show",
-        b"cohere: R: WrongLength at 2\n",
-    )?;
-    refuses(
-        &rt,
-        alloc,
-        b"DQc?\n",
-        b"show",
-        b"cohere: R: WrongLength at 4\n",
-    )?;
-    refuses(
-        &rt,
-        alloc,
-        b"~?AB\n",
-        b"show",
-        b"cohere: R: TooManyPoints at 0\n",
-    )?;
-    refuses(
-        &rt,
-        alloc,
-        b"~??D\n",
-        b"show",
-        b"cohere: R: SizeForm at 0\n",
-    )?;
-    refuses(&rt, alloc, b":An\n", b"show", b"cohere: R: BadByte at 0\n")?;
-    refuses(&rt, alloc, b"", b"show", b"cohere: R: NoLine at 0\n")?;
-    Ok(())
-}
-
-#[test]
-fn matrices(rt: HostRuntime) -> Result<(), Fail> {
-    let alloc = rt.alloc();
-    refuses(
-        &rt,
-        alloc,
-        b"matrix 2\n0 1\n1\n",
-        b"show",
-        b"cohere: R: MatrixCount at 14\n",
-    )?;
-    refuses(
-        &rt,
-        alloc,
-        b"matrix 1\n65536\n",
-        b"show",
-        b"cohere: R: ColourTooLarge at 9\n",
-    )?;
-    refuses(
-        &rt,
-        alloc,
-        b"matrix 1\n07\n",
-        b"show",
-        b"cohere: R: MatrixNumber at 9\n",
-    )?;
-    refuses(
-        &rt,
-        alloc,
-        b"matrix x\n",
-        b"show",
-        b"cohere: R: MatrixHead at 0\n",
-    )?;
-    Ok(())
-}
-
-#[test]
-fn scripts(rt: HostRuntime) -> Result<(), Fail> {
-    let alloc = rt.alloc();
-    refuses(
-        &rt,
-        alloc,
-        b"A_\n",
-        b"shwo\n",
-        b"cohere: S: line 1 UnknownWord\n",
-    )?;
-    refuses(
-        &rt,
-        alloc,
-        b"A_\n",
-        b"show\nmergings 0\n",
-        b"cohere: S: line 2 BadLimit\n",
-    )?;
-    refuses(
-        &rt,
-        alloc,
-        b"A_\n",
-        b"show\n\ntrace\n",
-        b"cohere: S: line 3 NotYet\n",
-    )?;
+    for (row, (relation, line)) in RELATIONS.iter().enumerate() {
+        refuses(&rt, alloc, 100 + row, relation, b"show", line)?;
+    }
+    for (row, (script, line)) in SCRIPTS.iter().enumerate() {
+        refuses(&rt, alloc, 200 + row, b"A_\n", script, line)?;
+    }
     // The relation is read first.
     refuses(
         &rt,
         alloc,
+        300,
         b"DQd\n",
         b"shwo\n",
         b"cohere: R: PadBits at 2\n",
-    )?;
-    answers(&rt, alloc, b"A_\n", b"# show\n \t\n", b"")?;
-    Ok(())
-}
-
-// One byte more than a relation's file may have.
-const TOO_LONG: usize = 4_194_305;
-
-#[test]
-fn a_file_over_its_limit(rt: HostRuntime) -> Result<(), Fail> {
-    let alloc = rt.alloc();
-    let long = vec![in alloc; b'?'; TOO_LONG]?;
-    refuses(&rt, alloc, &long, b"show", b"cohere: R: TooLong\n")?;
-    Ok(())
+    )
 }

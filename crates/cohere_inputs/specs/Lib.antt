@@ -12,3 +12,4 @@ pub mod FaultWords
 pub mod Lines
 pub mod Said
 pub mod Law
+pub mod Limits

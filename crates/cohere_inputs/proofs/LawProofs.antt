@@ -1,5 +1,7 @@
--- The laws of this crate, for the proofs of those above.
+-- The proofs of the laws, under the names by which crates above cite them.
+use Rattle.std.proofs.Common.{refl}
 use Rattle.cohere_inputs.specs.Law.{NoneOrFirstBad, NoneIsFirst, FirstBadIsUnique}
+use Rattle.cohere_inputs.specs.Limits.{AreLimits}
 use Rattle.cohere_inputs.proofs.FirstBad as files
 
 pub none_or_first_bad : NoneOrFirstBad
@@ -10,3 +12,6 @@ none_is_first = files.none_is_first
 
 pub first_bad_is_unique : FirstBadIsUnique
 first_bad_is_unique = files.first_bad_is_unique
+
+pub limits : AreLimits
+limits = record { line = refl }

@@ -1,4 +1,4 @@
-pub mod Pieces
+mod Pieces
 mod BuiltActs
 mod ReadFiles
 mod RunFiles

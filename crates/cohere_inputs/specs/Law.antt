@@ -1,8 +1,7 @@
--- What holds of the files of every task: none is bad, or there is exactly one first bad one, with one fault. And how large a line may be.
+-- What holds of the files of every task: none is bad, or there is exactly one first bad one, with one fault.
 use Rattle.std.specs.Prelude.{◌≡◌, ◌⊎◌}
 use Rattle.scheme_io.specs.Files.{Files}
 use Rattle.cohere_inputs.specs.declared.faults.FileFault.{FileFault}
-use Rattle.cohere_inputs.specs.declared.words.TheConstants.{MOST_LINE}
 use Rattle.cohere_inputs.specs.Task.{Task, IsAsked}
 use Rattle.cohere_inputs.specs.Needs.{Need}
 use Rattle.cohere_inputs.specs.Bad.{IsFirstBad, NoneIsBad}
@@ -19,7 +18,3 @@ NoneIsFirst = (files : Files) (task : Task) (need : Need) (fault : FileFault) �
 abbrev pub FirstBadIsUnique : Type 0
 FirstBadIsUnique = (files : Files) (task : Task) (need other : Need) (fault another : FileFault)
     → IsFirstBad files task need fault → IsFirstBad files task other another → (need ≡ other) × (fault ≡ another)
-
--- the numbers of this crate's limits
-pub record AreLimits : Type 0 where
-  pub line : MOST_LINE ≡ 1000000

@@ -11,3 +11,4 @@ pub mod Unread
 pub mod Lines
 pub mod Said
 pub mod Law
+pub mod Limits

@@ -1,6 +1,7 @@
 //! Laws over the definitions alone. Each is the contract of a function that does nothing.
 
-ghost use Rattle.cohere_inputs.specs.Law.{NoneOrFirstBad, NoneIsFirst, FirstBadIsUnique, AreLimits};
+ghost use Rattle.cohere_inputs.specs.Law.{NoneOrFirstBad, NoneIsFirst, FirstBadIsUnique};
+ghost use Rattle.cohere_inputs.specs.Limits.{AreLimits};
 
 /// Of the files that are loaded for a task none is bad, or one is the first bad one, and never both;
 /// and there is one first bad file at most, with one fault.
@@ -10,7 +11,7 @@ pub fn first_bad()
     ensures unique { FirstBadIsUnique }
 {}
 
-/// How large the numbers among the words may be.
+/// The numbers of the limits.
 pub fn limits()
     ensures { AreLimits }
 {}

@@ -1,17 +1,16 @@
 -- Alike histories refuse alike and accept alike, and no move is both accepted and refused.
-use Rattle.std.proofs.Common.{◌≡◌, ◌==◌, ⊎_elim, ℕ, ◌+◌, ◌<◌, ◌++◌, List, [], ◌∷◌, length, get_or, map, take, Option, Some, None, sym, ap, subst, ◌∙◌, arith}
+use Rattle.std.proofs.Common.{◌≡◌, ◌==◌, ⊎_elim, ◌+◌, ◌++◌, List, [], ◌∷◌, length, get_or, map, take, Some, None, sym, ap, subst, ◌∙◌, arith}
 use Rattle.std.proofs.lemmas.List.{length-map, get_or-map, map-append, take-map}
 use Rattle.pair_colours.specs.Colouring.{PairColouring}
 use Rattle.pair_colours.specs.Closure.{IsClosureOf}
 use Rattle.pair_colours.specs.Tests.{first_that_holds}
 use Rattle.pair_colours.proofs.Closures.{named_closure_is_unique}
-use Rattle.recolour_bench.specs.declared.edits.EditFault.{EditFault}
 use Rattle.recolour_bench.specs.declared.edits.EditFault.TheVariants.{HistoryFull}
 use Rattle.recolour_bench.specs.declared.history.TheConstants.{MOST_POSITION}
 use Rattle.recolour_bench.specs.Edits.{Edit}
 use Rattle.recolour_bench.specs.Recolouring.{edited}
-use Rattle.recolour_bench.specs.History.{Entry, History, IsHistory, AreAlike, no_entry, entry_at, present, colourings_of}
-use Rattle.recolour_bench.specs.Steps.{Move, edits, undoes, redoes, edit_tests, edit_refusal, EditStep, Accepts, IsRefused, Step}
+use Rattle.recolour_bench.specs.History.{Entry, History, IsHistory, AreAlike, no_entry, present, colourings_of}
+use Rattle.recolour_bench.specs.Steps.{Move, edits, undoes, redoes, edit_tests, edit_refusal, EditStep, Accepts}
 use Rattle.recolour_bench.specs.Law.{StartIsUnique, StepIsUnique, NotBoth, RefusalIsUnique, RefusalIsAlike, PresentIsUnique}
 use Rattle.recolour_bench.proofs.Stepping.{present_is_raw}
 

@@ -1,19 +1,17 @@
 -- What is kept of a history.
-use Rattle.std.proofs.Common.{◌≡◌, ◌==◌, ◌<◌, ◌≤◌, ◌+◌, ◌++◌, ℕ, List, [], ◌∷◌, length, get_or, take, drop, map, All, Option, Some, None, refl, sym, ap, subst, ◌∙◌, arith}
-use Rattle.std.proofs.Math.Seq.{take-append-add}
-use Rattle.std.proofs.lemmas.List.{length-map, length-take, get_or-map, map-append, take-map}
+use Rattle.std.proofs.Common.{◌≡◌, ◌==◌, ◌<◌, ◌+◌, ◌++◌, ℕ, List, [], ◌∷◌, length, get_or, take, map, All, Option, Some, None, refl, sym, ap, subst, ◌∙◌, arith}
+use Rattle.std.proofs.lemmas.List.{length-map, get_or-map, map-append, take-map}
 use Rattle.std.proofs.lemmas.List.Elements.{All-push, All-take}
 use Rattle.pair_colours.specs.Colouring.{PairColouring, IsRawColouring}
 use Rattle.pair_colours.specs.Closure.{IsClosureOf}
 use Rattle.pair_colours.specs.Tests.{first_that_holds}
-use Rattle.pair_colours.proofs.Places.{Refines-refl}
 use Rattle.recolour_bench.specs.declared.edits.EditFault.TheVariants.{HistoryFull}
 use Rattle.recolour_bench.specs.declared.history.TheConstants.{MOST_POSITION}
 use Rattle.recolour_bench.specs.declared.kept.Kept.{Kept}
-use Rattle.recolour_bench.specs.Edits.{Edit, Adopt}
+use Rattle.recolour_bench.specs.Edits.{Edit}
 use Rattle.recolour_bench.specs.Recolouring.{edited}
-use Rattle.recolour_bench.specs.History.{Entry, History, IsHistory, Starts, no_entry, entry_at, present}
-use Rattle.recolour_bench.specs.Steps.{edit_tests, edit_refusal, EditStep}
+use Rattle.recolour_bench.specs.History.{Entry, History, no_entry, entry_at}
+use Rattle.recolour_bench.specs.Steps.{edit_tests, EditStep}
 use Rattle.recolour_bench.specs.Kept.{entry_of, history_of, IsKeptHistory}
 use Rattle.recolour_bench.proofs.Stepping.{IsHistory-edited}
 
@@ -37,24 +35,12 @@ IsPresentEntry-read kept position entry k e = record {
     is : get_or (map entry_of kept) position no_entry ≡ entry_of entry
     is = get_or-map entry_of kept position entry no_entry low ∙ ap entry_of (sym e)
 
--- the entries up to a place, and one more
-pub take-insert : {X : Type 0} (xs : List X) (i n : ℕ) (x : X) → n ≡ i + 1 → i ≤ length xs → take n (take i xs ++ x ∷ drop i xs) ≡ take i xs ++ x ∷ []
-take-insert {X} xs i n x e l =
-    let len : length (take i xs) ≡ i = omega (arith, length-take i xs, l) in
-    ap (λ k. take k (take i xs ++ x ∷ drop i xs)) (e ∙ ap (λ k. k + 1) (sym len)) ∙ take-append-add (take i xs) (x ∷ drop i xs) 1
-
--- the first test that holds refuses the edit
-pub edit_refusal-kept : (kept : List Kept) (position : ℕ) (now : Kept) (e : Edit) → IsPresentEntry (history_of kept position) now
-    → edit_refusal (history_of kept position) now.closure e ≡ first_that_holds (edit_tests now.raw now.closure e ++ (position == MOST_POSITION, HistoryFull) ∷ [])
-edit_refusal-kept kept position now e here =
-    ap (λ (a : Entry). first_that_holds (edit_tests a.colouring now.closure e ++ (position == MOST_POSITION, HistoryFull) ∷ [])) here.is
-
 -- where no test holds, the edit is accepted
 pub EditStep-kept : (kept new : List Kept) (position : ℕ) (now entry : Kept) (e : Edit) → IsPresentEntry (history_of kept position) now
     → first_that_holds (edit_tests now.raw now.closure e ++ (position == MOST_POSITION, HistoryFull) ∷ []) ≡ None → entry.raw ≡ edited now.raw now.closure e
     → new ≡ take (position + 1) kept ++ entry ∷ [] → EditStep (history_of kept position) e now.closure (history_of new (position + 1))
 EditStep-kept kept new position now entry e here allowed made put = record {
-  allowed = edit_refusal-kept kept position now e here ∙ allowed;
+  allowed = ap (λ (a : Entry). first_that_holds (edit_tests a.colouring now.closure e ++ (position == MOST_POSITION, HistoryFull) ∷ [])) here.is ∙ allowed;
   closure = subst (λ (a : Entry). IsClosureOf now.closure a.colouring) (sym here.is) here.closure;
   entry = entry_of entry;
   made = record { colouring = made ∙ ap (λ (a : Entry). edited a.colouring now.closure e) (sym here.is) };
@@ -77,17 +63,6 @@ IsKeptHistory-edited kept new position entry e K k step closure put = record {
   where
     Closed : Kept → Type 0
     Closed a = IsClosureOf a.closure a.raw
-
--- the closure of a colouring is its own closure
-IsClosureOf-own : (K C : PairColouring) → IsClosureOf K C → IsClosureOf K K
-IsClosureOf-own K C k = record {
-  closure = record { colouring = k.closure.colouring; coherent = k.closure.coherent; refines = Refines-refl K; coarsest = λ Q q h r. r };
-  named = k.named;
-}
-
--- so what `adopt` makes is its own closure
-pub IsClosureOf-adopted : (C K next : PairColouring) (e : Edit) → IsClosureOf K C → next ≡ edited C K e → e ≡ Adopt → IsClosureOf next next
-IsClosureOf-adopted C K next e k made adopt = subst (λ D. IsClosureOf D D) (sym (made ∙ ap (edited C K) adopt)) (IsClosureOf-own K C k)
 
 pub none_from_not : {X : Type 0} (o : Option X) → ((x : X) → o ≡ Some x → ⊥) → o ≡ None
 none_from_not None h = refl

@@ -1,5 +1,5 @@
 -- The closure of a colouring within the limits is within them.
-use Rattle.std.proofs.Common.{◌==◌, ℕ, ◌*◌, ◌<◌, ◌≤◌, not, length, get_or, All, subst, arith}
+use Rattle.std.proofs.Common.{◌==◌, ℕ, ◌≤◌, not, get_or, All, subst, arith}
 use Rattle.std.proofs.lemmas.List.Elements.{All-map}
 use Rattle.std.proofs.lemmas.List.Sums.{prefix_len-le-length}
 use Rattle.std.proofs.lemmas.Nat.{mul-le}
@@ -11,8 +11,8 @@ use Rattle.pair_colours.proofs.Few.{colours_met-le}
 use Rattle.pair_colours.proofs.NamePlaces.{name_of-position}
 
 -- the closure's names are fewer than the raw colours
-pub IsRawColouring-closure : (C K : PairColouring) → IsRawColouring C → IsClosureOf K C → IsRawColouring K
-IsRawColouring-closure C K c k = record {
+pub closure_is_raw : (C K : PairColouring) → IsRawColouring C → IsClosureOf K C → IsRawColouring K
+closure_is_raw C K c k = record {
   fits = record { colouring = k.closure.colouring; limit = limit; numbers = λ i d l. omega (arith, names i d l) };
   raw = names;
 }

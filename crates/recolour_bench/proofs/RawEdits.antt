@@ -1,5 +1,5 @@
 -- What an allowed edit makes is within the limits.
-use Rattle.std.proofs.Common.{◌≡◌, ◌==◌, ℕ, ◌+◌, ◌*◌, ◌/◌, ◌%◌, ◌^◌, ◌<◌, ◌≤◌, ◌++◌, ◌||◌, Bool, true, false, not, cond, nat_lt, List, [], ◌∷◌, length, get_or, Option, Some, None, refl, ap, ◌∙◌, arith}
+use Rattle.std.proofs.Common.{◌≡◌, ◌==◌, ℕ, ◌+◌, ◌*◌, ◌/◌, ◌%◌, ◌^◌, ◌<◌, ◌≤◌, ◌++◌, ◌||◌, Bool, true, false, not, cond, nat_lt, List, [], ◌∷◌, length, get_or, Some, None, refl, ap, ◌∙◌, arith}
 use Rattle.std.proofs.lemmas.Bool.{ltb-false}
 use Rattle.std.proofs.lemmas.List.Elements.{All-map}
 use Rattle.std.proofs.lemmas.List.FromFn.{get_or-range_with_len, length-range_with_len, length-map-range_with_len}
@@ -13,7 +13,7 @@ use Rattle.recolour_bench.specs.declared.edits.EditFault.TheVariants.{PointRange
 use Rattle.recolour_bench.specs.Edits.{Edit, Set, Both, Fix, Join, Adopt}
 use Rattle.recolour_bench.specs.Recolouring.{has_colour, is_pair, least_unused, recoloured, edited}
 use Rattle.recolour_bench.specs.Steps.{pair_tests, colour_tests, edit_tests}
-use Rattle.recolour_bench.proofs.RawClosure.{IsRawColouring-closure}
+use Rattle.recolour_bench.proofs.RawClosure.{closure_is_raw}
 use Rattle.recolour_bench.proofs.Unused.{least_unused-le}
 
 -- where no test of a list holds, the first does not, and no later one
@@ -82,4 +82,4 @@ IsRawColouring-edited C K (Join keep gone) c k allowed =
     let small = join_colour C keep (first_that_holds-append (colour_tests C keep) (colour_tests C gone) allowed).0 in
     IsRawColouring-recoloured C (λ u v. cond (colour_at C u v == gone) keep (colour_at C u v)) c
     (λ u v hu hv. either-raw (colour_at C u v == gone) keep (colour_at C u v) small (colour_at-raw C c u v hu hv))
-IsRawColouring-edited C K Adopt c k allowed = IsRawColouring-closure C K c k
+IsRawColouring-edited C K Adopt c k allowed = closure_is_raw C K c k

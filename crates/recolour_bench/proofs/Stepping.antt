@@ -1,5 +1,5 @@
 -- Each move leads from each history to a history.
-use Rattle.std.proofs.Common.{◌≡◌, ◌==◌, inl, inr, ⊎_elim, ℕ, ◌+◌, ◌-◌, ◌≤◌, ◌++◌, List, [], ◌∷◌, length, take, All, Option, Some, None, refl, sym, ap, subst, ◌∙◌, arith}
+use Rattle.std.proofs.Common.{◌≡◌, ◌==◌, inl, inr, ⊎_elim, ◌+◌, ◌-◌, ◌≤◌, ◌++◌, [], ◌∷◌, length, take, All, Option, Some, None, refl, sym, ap, subst, ◌∙◌, arith}
 use Rattle.std.proofs.lemmas.Bool.{cases_eq, eqb-false}
 use Rattle.std.proofs.lemmas.List.{length-append, length-take}
 use Rattle.std.proofs.lemmas.List.Elements.{All-cons, All-nil, All-push, All-take}
@@ -12,7 +12,7 @@ use Rattle.recolour_bench.specs.declared.edits.EditFault.TheVariants.{HistoryFul
 use Rattle.recolour_bench.specs.declared.history.TheConstants.{MOST_POSITION}
 use Rattle.recolour_bench.specs.Edits.{Edit}
 use Rattle.recolour_bench.specs.Recolouring.{edited}
-use Rattle.recolour_bench.specs.History.{Entry, History, IsHistory, Starts, no_entry, entry_at, present}
+use Rattle.recolour_bench.specs.History.{Entry, History, IsHistory, no_entry, present}
 use Rattle.recolour_bench.specs.Steps.{Move, edits, undoes, redoes, edit_tests, edit_refusal, EditStep, UndoStep, RedoStep, Accepts, Step}
 use Rattle.recolour_bench.specs.Law.{StartExists, StartIsHistory, StepExists, StepKeeps, PresentIsRaw}
 use Rattle.recolour_bench.proofs.RawEdits.{first_that_holds-none, first_that_holds-append, IsRawColouring-edited}

@@ -1,5 +1,5 @@
 -- What holds of histories and their moves.
-use Rattle.std.specs.Prelude.{◌≡◌, ℕ}
+use Rattle.std.specs.Prelude.{◌≡◌}
 use Rattle.pair_colours.specs.Colouring.{PairColouring, IsRawColouring}
 use Rattle.recolour_bench.specs.declared.edits.EditFault.{EditFault}
 use Rattle.recolour_bench.specs.declared.history.TheConstants.{MOST_POSITION}

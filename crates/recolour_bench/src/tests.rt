@@ -41,90 +41,67 @@ fn a_fixed_point_of_the_pentagon(rt: HostRuntime) -> Result<(), Fail> {
     Ok(())
 }
 
+fn set(x: u32, y: u32, colour: u32) -> Edit {
+    Edit::Set { x, y, colour }
+}
+
+fn both(x: u32, y: u32, colour: u32) -> Edit {
+    Edit::Both { x, y, colour }
+}
+
+fn join(keep: u32, gone: u32) -> Edit {
+    Edit::Join { keep, gone }
+}
+
+// Each refusal of an edit stands beside an edit that is accepted.
 #[test]
 fn edits_of_the_pentagon(rt: HostRuntime) -> Result<(), Fail> {
     let alloc = rt.alloc();
     let mut bench = pentagon(alloc)?;
     for (edit, rank) in [
-        (
-            Edit::Both {
-                x: 0,
-                y: 1,
-                colour: 9,
-            },
-            Ok(13),
-        ),
-        (Edit::Join { keep: 9, gone: 1 }, Ok(3)),
-        (
-            Edit::Join { keep: 9, gone: 1 },
-            Err(EditFault::ColourAbsent),
-        ),
-        (
-            Edit::Join {
-                keep: 1,
-                gone: 70_000,
-            },
-            Err(EditFault::ColourAbsent),
-        ),
-        (
-            Edit::Join {
-                keep: 9,
-                gone: 70_000,
-            },
-            Err(EditFault::ColourRange),
-        ),
-        (Edit::Join { keep: 9, gone: 9 }, Ok(3)),
-        (
-            Edit::Set {
-                x: 0,
-                y: 1,
-                colour: 8,
-            },
-            Ok(25),
-        ),
-        (
-            Edit::Set {
-                x: 5,
-                y: 0,
-                colour: 70_000,
-            },
-            Err(EditFault::PointRange),
-        ),
-        (
-            Edit::Set {
-                x: 0,
-                y: 0,
-                colour: 70_000,
-            },
-            Err(EditFault::ColourRange),
-        ),
-        (
-            Edit::Both {
-                x: 0,
-                y: 5,
-                colour: 1,
-            },
-            Err(EditFault::PointRange),
-        ),
+        (both(0, 1, 9), Ok(13)),
+        (join(9, 1), Ok(3)),
+        (join(9, 1), Err(EditFault::ColourAbsent)),
+        (join(1, 70_000), Err(EditFault::ColourAbsent)),
+        (join(9, 70_000), Err(EditFault::ColourRange)),
+        (join(9, 9), Ok(3)),
+        (set(0, 1, 8), Ok(25)),
+        (set(5, 0, 70_000), Err(EditFault::PointRange)),
+        (set(4, 0, 65_536), Err(EditFault::ColourRange)),
+        (set(4, 0, 65_535), Ok(25)),
+        (both(0, 5, 1), Err(EditFault::PointRange)),
+        (both(0, 4, 1), Ok(25)),
         (Edit::Fix { x: 5 }, Err(EditFault::PointRange)),
+        (Edit::Fix { x: 4 }, Ok(25)),
     ] {
         assert_eq!(rt; rank_after(alloc, &mut bench, edit), rank);
     }
-    assert_eq!(rt; bench.redo(), Err(EditFault::NothingToRedo));
     Ok(())
 }
 
+// A full history refuses each edit that nothing else refuses, and stays as it is.
 #[test]
 fn a_full_history(rt: HostRuntime) -> Result<(), Fail> {
     let alloc = rt.alloc();
     let mut bench = Bench::new(alloc, Colouring::new(alloc, 2, 7)?)?;
     assert_eq!(rt; bench.undo(), Err(EditFault::NothingToUndo));
+    assert_eq!(rt; bench.redo(), Err(EditFault::NothingToRedo));
     for _ in 0..256 {
         assert_eq!(rt; rank_after(alloc, &mut bench, Edit::Adopt), Ok(2));
     }
+    for (edit, word) in [
+        (Edit::Adopt, "HistoryFull"),
+        (Edit::Fix { x: 1 }, "HistoryFull"),
+        (Edit::Fix { x: 2 }, "PointRange"),
+    ] {
+        assert_eq!(rt; bench.edit(&edit).map_err(EditFault::as_str), Err(word));
+        assert_eq!(rt; bench.position(), 256);
+        assert_eq!(rt; bench.last_position(), 256);
+        assert_eq!(rt; bench.present().rank(alloc)?, 2);
+        assert_eq!(rt; bench.closure().rank(alloc)?, 2);
+    }
+    assert_eq!(rt; bench.undo(), Ok(()));
+    assert_eq!(rt; rank_after(alloc, &mut bench, Edit::Fix { x: 1 }), Ok(4));
     assert_eq!(rt; bench.edit(&Edit::Adopt), Err(EditFault::HistoryFull));
-    assert_eq!(rt; bench.position(), 256);
-    assert_eq!(rt; bench.last_position(), 256);
-    assert_eq!(rt; bench.present().rank(alloc)?, 2);
     Ok(())
 }

@@ -2,14 +2,14 @@ use Rattle.std.proofs.Common.{◌≡◌, sym, ap, subst, ◌∙◌}
 use Rattle.pair_colours.specs.Closure.{IsClosureOf}
 use Rattle.pair_colours.proofs.Closures.{named_closure_is_unique}
 use Rattle.recolour_bench.specs.History.{Entry, present}
-use Rattle.recolour_bench.proofs.RawClosure.{IsRawColouring-closure}
+use Rattle.recolour_bench.proofs.RawClosure.{closure_is_raw}
 use Rattle.recolour_bench.proofs.Keeping.{IsPresentEntry-read}
 use Rattle.recolour_bench.proofs.history.Bench.closure.Goals as goal
 
 pub returns-clause-within : goal.returns-clause-within
 returns-clause-within c =
     let entry = IsPresentEntry-read c.self.inside.kept.items c.self.inside.position c.index.result.now c.self.invariant c.index.ensures in
-    IsRawColouring-closure c.index.result.now.raw c.index.result.now.closure entry.raw entry.closure
+    closure_is_raw c.index.result.now.raw c.index.result.now.closure entry.raw entry.closure
 
 pub returns-clause-only : goal.returns-clause-only
 returns-clause-only c = λ K k.

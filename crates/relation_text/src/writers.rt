@@ -58,11 +58,21 @@ pub fn write_digraph6(
 fn column_bits(alloc: Global, relation: &Colouring, set: &[u32]) -> Result<Vec<bool>, NoMemory>
     ensures { IfOk result (λ bits. bits.items ≡ pair_bits relation.now set.now (column_pairs relation.now.size)) }
 {
-    let members = ColourSet::of(alloc, set)?;
+    bits_in_columns(alloc, relation, &ColourSet::of(alloc, set)?)
+}
+
+// The same of a set that is made for asking.
+fn bits_in_columns(
+    alloc: Global,
+    relation: &Colouring,
+    set: &ColourSet,
+) -> Result<Vec<bool>, NoMemory>
+    ensures { IfOk result (λ bits. bits.items ≡ pair_bits relation.now set.now (column_pairs relation.now.size)) }
+{
     let mut bits = Vec::new(alloc);
     for j in 0..relation.size() {
         for i in 0..j {
-            bits.push(members.has_pair(relation, i, j))?;
+            bits.push(set.has_pair(relation, i, j))?;
         }
     }
     Ok(bits)
@@ -72,11 +82,17 @@ fn column_bits(alloc: Global, relation: &Colouring, set: &[u32]) -> Result<Vec<b
 fn row_bits(alloc: Global, relation: &Colouring, set: &[u32]) -> Result<Vec<bool>, NoMemory>
     ensures { IfOk result (λ bits. bits.items ≡ pair_bits relation.now set.now (row_pairs relation.now.size)) }
 {
-    let members = ColourSet::of(alloc, set)?;
+    bits_in_rows(alloc, relation, &ColourSet::of(alloc, set)?)
+}
+
+// The same of a set that is made for asking.
+fn bits_in_rows(alloc: Global, relation: &Colouring, set: &ColourSet) -> Result<Vec<bool>, NoMemory>
+    ensures { IfOk result (λ bits. bits.items ≡ pair_bits relation.now set.now (row_pairs relation.now.size)) }
+{
     let mut bits = Vec::new(alloc);
     for i in 0..relation.size() {
         for j in 0..relation.size() {
-            bits.push(members.has_pair(relation, i, j))?;
+            bits.push(set.has_pair(relation, i, j))?;
         }
     }
     Ok(bits)

@@ -1,14 +1,10 @@
-use Rattle.std.proofs.Common.{◌≡◌, ap, ◌∙◌, arith}
+use Rattle.std.proofs.Common.{◌≡◌, ℕ, Bool, map, subst}
+use Rattle.std.specs.Prelude.{IfOk}
 use Rattle.pair_colours.specs.Colouring.{colour_at}
-use Rattle.relation_text.proofs.PairWrites.{bits_to, bits_to-push, row_pair, rows_to, row-next}
+use Rattle.relation_text.specs.Orders.{row_pairs}
 use Rattle.relation_text.proofs.writers.row_bits.Goals as goal
 
-pub loop-j-preserved : goal.loop-j-preserved
-loop-j-preserved c = bits_to-push c.args.relation.now c.args.set.now (rows_to c.args.relation.now.size c.loop-i.i) (row_pair c.loop-i.i) c.loop-j.j c.has_pair.result c.loop-j.bits.items c.push.new.self.items
-    c.loop-j.invariant (c.has_pair.ensures ∙ (λ k. c.in_ok-members.ensures k (colour_at c.args.relation.now c.loop-i.i c.loop-j.j))) c.in_ok-push.ensures.items
-
-pub loop-i-preserved : goal.loop-i-preserved
-loop-i-preserved c =
-    let end = c.size-j-end.ensures.points in
-    let full : c.loop-j.j ≡ c.args.relation.now.size = omega arith in
-    c.loop-j.invariant ∙ ap (bits_to c.args.relation.now c.args.set.now (rows_to c.args.relation.now.size c.loop-i.i) (row_pair c.loop-i.i)) full ∙ row-next c.args.relation.now c.args.set.now c.args.relation.now.size c.loop-i.i
+pub returns : goal.returns
+returns c =
+    let C = c.args.relation.now in
+    subst (λ (t : ℕ → Bool). IfOk c.bits_in_rows-2.result (λ bits. bits.items ≡ map (λ pair. t (colour_at C pair.0 pair.1)) (row_pairs C.size))) c.in_ok-of.ensures c.bits_in_rows-2.ensures

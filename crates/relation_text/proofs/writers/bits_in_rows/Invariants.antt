@@ -1,7 +1,7 @@
 use Rattle.std.proofs.Common.{◌≡◌}
 use Rattle.relation_text.specs.Written.{pair_bits}
 use Rattle.relation_text.proofs.PairWrites.{bits_to, row_pair, rows_to}
-use Rattle.relation_text.proofs.writers.row_bits.Given as goal
+use Rattle.relation_text.proofs.writers.bits_in_rows.Given as goal
 
 abbrev pub invariant-loop-i : goal.invariant-loop-i
 invariant-loop-i l = l.bits.items ≡ pair_bits l.relation l.set (rows_to l.relation.size l.i)

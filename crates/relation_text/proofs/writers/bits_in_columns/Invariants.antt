@@ -2,7 +2,7 @@ use Rattle.std.proofs.Common.{◌≡◌}
 use Rattle.relation_text.specs.Orders.{column_pairs}
 use Rattle.relation_text.specs.Written.{pair_bits}
 use Rattle.relation_text.proofs.PairWrites.{bits_to, column_pair}
-use Rattle.relation_text.proofs.writers.column_bits.Given as goal
+use Rattle.relation_text.proofs.writers.bits_in_columns.Given as goal
 
 abbrev pub invariant-loop-j : goal.invariant-loop-j
 invariant-loop-j l = l.bits.items ≡ pair_bits l.relation l.set (column_pairs l.j)

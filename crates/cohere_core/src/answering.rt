@@ -3,6 +3,7 @@
 ghost use Rattle.std.specs.Prelude.{◌≤◌, OnOk, OnErr, IfErr, IsErrOf};
 ghost use Rattle.scheme_io.specs.Count.{Rose};
 ghost use Rattle.pair_colours.specs.Colouring.{IsRawColouring};
+ghost use Rattle.recolour_bench.specs.History.{IsHistory};
 ghost use Rattle.cohere_inputs.specs.Acts.{AreBuilt};
 ghost use Rattle.cohere_core.specs.Answer.{Answered, Stopped};
 ghost use Rattle.cohere_core.specs.Output.{AddsScript, AddsScriptFront};
@@ -63,6 +64,7 @@ pub fn session<O: Sink>(
     ensures stopped { IfErr result (λ fault. Stopped fault bench.old lines.now bench.new (O.written out.old) (O.written out.new)) }
     ensures failed { IsErrOf result SessionFault.SinkFailed → Rose (O.faults out.old) (O.faults out.new) }
     ensures later { O.faults out.old ≤ O.faults out.new }
+    ensures within { IsHistory bench.new }
 {
     // Read for its clause alone: the bench stands for a history.
     let _start = bench.position();

@@ -21,8 +21,6 @@ mod graph;
 pub mod laws;
 mod levels;
 mod places;
-#[cfg(test)]
-mod tests;
 
 pub use answer::{ArrayAnswer, ArrayFault};
 pub use arrays::array;

@@ -1,3 +1,4 @@
 mod ClassLines
 mod Rising
 mod ConstantLists
+mod Literals

@@ -13,6 +13,3 @@ mod properties;
 mod spans;
 
 pub use properties::{SchemeTests, tests};
-
-#[cfg(test)]
-mod worked_cases;

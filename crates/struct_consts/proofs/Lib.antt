@@ -6,5 +6,3 @@ pub mod Sums
 mod PassLemmas
 mod LookupLemmas
 mod KeptLemmas
-pub mod Literals
-pub mod TestColourings

@@ -77,4 +77,3 @@ sum_chosen t f v (suc n) h =
     by false here count more again =
         let same : count_by t (points (suc n)) ≡ count_by t (points n) = omega (arith, count) in
         omega (arith, more, again, here) ∙ ap (λ c. c * v) (sym same)
-

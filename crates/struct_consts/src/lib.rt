@@ -17,6 +17,3 @@ mod passes;
 
 pub use intersection_numbers::Constants;
 pub use triangle_count::Entry;
-
-#[cfg(test)]
-mod tests;

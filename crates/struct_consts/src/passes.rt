@@ -4,7 +4,7 @@ ghost use Rattle.std.specs.Prelude.{IfOk};
 ghost use Rattle.struct_consts.specs.ClassData.{HasColoursBelow};
 ghost use Rattle.struct_consts.specs.Kept.{HasFirstPairs, HasSizes};
 
-use pair_colours::{Colouring, NoMemory};
+use pair_colours::{Colouring, NoMemory, pair_on_walk};
 use std::alloc::Global;
 
 // The first pair of each class in the naming walk.
@@ -16,18 +16,12 @@ pub(crate) fn first_pairs(
     requires { HasColoursBelow k.now rank }
     ensures { IfOk result (λ pairs. HasFirstPairs k.now rank pairs.items) }
 {
+    let size = k.size();
     let mut pairs = vec![in alloc; None; rank as usize]?;
-    for x in 0..k.size() {
-        let colour = k.get(x, x) as usize;
-        pairs[colour] = Some(pairs[colour].unwrap_or((x, x)));
-    }
-    for x in 0..k.size() {
-        for y in 0..k.size() {
-            if x != y {
-                let colour = k.get(x, y) as usize;
-                pairs[colour] = Some(pairs[colour].unwrap_or((x, y)));
-            }
-        }
+    for place in 0..size * size {
+        let (x, y) = pair_on_walk(size, place);
+        let colour = k.get(x, y) as usize;
+        pairs[colour] = Some(pairs[colour].unwrap_or((x, y)));
     }
     Ok(pairs)
 }
@@ -38,11 +32,8 @@ pub(crate) fn class_sizes(alloc: Global, k: &Colouring, rank: u32) -> Result<Vec
     ensures { IfOk result (λ sizes. HasSizes k.now rank sizes.items) }
 {
     let mut sizes = vec![in alloc; 0; rank as usize]?;
-    for x in 0..k.size() {
-        for y in 0..k.size() {
-            let colour = k.get(x, y) as usize;
-            sizes[colour] += 1;
-        }
+    for colour in k.colours() {
+        sizes[*colour as usize] += 1;
     }
     Ok(sizes)
 }

@@ -1,4 +1,4 @@
--- A test by which a colouring that is written out is seen to be coherent.
+-- A test by which a colouring that is written out is seen to be coherent, for the tests of this crate.
 use Rattle.std.proofs.Common.{◌≡◌, ◌&&◌, ℕ, suc, zero, ◌<◌, Bool, true, ⊎_elim, refl, sym, ap, subst, ◌∙◌, arith}
 use Rattle.std.proofs.lemmas.Bool.{and_parts, cases_lt}
 use Rattle.pair_colours.specs.Colouring.{PairColouring, colour_at}

@@ -1,8 +1,5 @@
 //! The program `cohere`: hands its words to `cohere_core::run`, over the files, the standard input
 //! and the two outputs of the machine. The types of the sinks say which output is which.
-//!
-//! The run that is stored beside `src/` is refused: its relation is standard input, and its script,
-//! a bad one, a file named `_`. So it ends with a status of its own and writes no answer.
 #![tactic(auto)]
 
 use cohere_core::{Status, run};

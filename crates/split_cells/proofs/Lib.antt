@@ -1,0 +1,16 @@
+mod SegmentLemmas
+mod TallyLemmas
+mod PointCounts
+mod GatherLemmas
+mod FirstSides
+mod SecondSides
+mod NestedSides
+mod KeyLemmas
+mod PartLemmas
+mod BuildLemmas
+mod CellLemmas
+mod SumCounts
+mod RowPairs
+mod CodeTables
+mod FaultSteps
+mod FellowPairs

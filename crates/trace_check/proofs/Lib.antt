@@ -1,0 +1,4 @@
+pub mod ClaimLength
+mod ReadOut
+mod Steps
+mod Coherence

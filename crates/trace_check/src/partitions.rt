@@ -3,7 +3,7 @@
 ghost use Rattle.std.specs.Prelude.{◌≡◌, ℕ, ◌<◌, IfOk};
 ghost use Rattle.pair_colours.specs.Colouring.{IsColouring, colour_at};
 ghost use Rattle.pair_colours.specs.Naming.{named_of};
-ghost use Rattle.trace_text.specs.Partition.{meet_of};
+ghost use Rattle.trace_text.specs.Partition.{IsPartition, meet_of};
 ghost use Rattle.trace_check.specs.Rows.{IsRowCopied};
 
 use pair_colours::{Colouring, NoMemory};
@@ -23,7 +23,8 @@ fn copy_row(colouring: &mut Colouring, cells: &Cells, x: u32)
 
 // The partition as a colouring.
 pub(crate) fn read_out(alloc: Global, cells: &Cells) -> Result<Colouring, NoMemory>
-    ensures { IfOk result (λ partition. partition ≡ cells.now) }
+    ensures classes { IfOk result (λ partition. partition ≡ cells.now) }
+    ensures within { IfOk result (λ _. IsPartition cells.now) }
 {
     let mut partition = Colouring::new(alloc, cells.size(), 0)?;
     for x in 0..cells.size() {

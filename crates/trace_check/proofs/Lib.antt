@@ -1,4 +1,4 @@
-pub mod ClaimLength
 mod ReadOut
 mod Steps
 mod Coherence
+mod Judged

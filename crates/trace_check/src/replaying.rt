@@ -44,11 +44,14 @@ fn follow(cells: &mut Cells, steps: &Steps, line: u32) -> Result<(), BadLine>
     ensures refused { IfErr result (λ bad. IsFirstFailing (step_conditions line cells.old steps.now) bad.line bad.what) }
 {
     for i in 0..steps.len() {
-        if let Err(what) = make(cells, steps.at(i)) {
-            return Err(BadLine {
-                line: line + i,
-                what,
-            });
+        match make(cells, steps.at(i)) {
+            Ok(()) => {}
+            Err(what) => {
+                return Err(BadLine {
+                    line: line + i,
+                    what,
+                });
+            }
         }
     }
     Ok(())

@@ -1,7 +1,8 @@
 use Rattle.std.proofs.Common.{ap, sym, subst, arith, sum_by}
-use Rattle.trace_text.specs.BadLines.{line_count_of_stage, closure_line, IsFirstBadLine}
-use Rattle.trace_text.proofs.StageLoops.{GoneThrough, gone_more, gone_bad, gone_steps, gone_ended, gone_some, bad_at_end}
+use Rattle.trace_text.specs.BadLines.{line_count_of_stage}
+use Rattle.trace_text.proofs.StageLoops.{GoneThrough, gone_more, gone_bad, gone_steps, gone_some, gone_within}
 use Rattle.trace_check.specs.Ends.{ended_of, before_of}
+use Rattle.trace_check.proofs.Judged.{accepted_at, refused_at}
 use Rattle.trace_check.proofs.checking.check.Goals as goal
 
 pub returns-in-Err : goal.returns-in-Err
@@ -33,3 +34,25 @@ overflow_add-steps c =
     c.loop-stage-test.true c.stage-item.is c.loop-stage.invariant in
     let same = ap (sum_by line_count_of_stage) c.as_slice-stage-items.ensures.stages in
     omega (arith, few, same, c.len-in-loop-stage.ensures, c.requires.lines)
+
+pub returns : goal.returns
+returns c =
+    let e = c.as_slice-stage-items.ensures.stages in
+    let gone = subst (λ xs. GoneThrough xs c.loop-stage.stage-index (before_of c.loop-stage.before) c.loop-stage.line c.loop-stage.steps) e c.loop-stage.invariant in
+    refused_at c.args.claim.now c.loop-stage.stage-index c.loop-stage.line c.loop-stage.steps (ended_of c.in-Some.end) c.in-Some-2.what (rw e at c.loop-stage-test.false) (rw c.in-Some.is at gone)
+    (rw c.in-Some-2.is at c.in_ok-end_fault.ensures.some)
+
+pub returns-in-None : goal.returns-in-None
+returns-in-None c =
+    let e = c.as_slice-stage-items.ensures.stages in
+    let gone = subst (λ xs. GoneThrough xs c.loop-stage.stage-index (before_of c.loop-stage.before) c.loop-stage.line c.loop-stage.steps) e c.loop-stage.invariant in
+    let none = rw c.in-None.is at c.in_ok-end_fault.ensures.none in
+    accepted_at c.args.claim.now c.loop-stage.stage-index c.loop-stage.line c.loop-stage.steps _ _ (ended_of c.in-Some.end) (rw e at c.loop-stage-test.false) (rw c.in-Some.is at gone)
+    none.0 none.1 c.size-in-None.ensures.points c.in_ok-rank-in-None.ensures
+
+pub overflow_add-line-in-loop-stage-2 : goal.overflow_add-line-in-loop-stage-2
+overflow_add-line-in-loop-stage-2 c =
+    let few = gone_within c.as_slice-stage-items.result.now c.loop-stage.stage-index (before_of c.loop-stage.before) c.loop-stage.line c.loop-stage.steps c.stage-item.result
+    c.loop-stage-test.true c.stage-item.is c.loop-stage.invariant in
+    let same = ap (sum_by line_count_of_stage) c.as_slice-stage-items.ensures.stages in
+    omega (arith, few, same, c.size.ensures.points, c.len.ensures, c.requires.lines)

@@ -8,4 +8,4 @@ returns-in-Err-clause-refused c =
     c.loop-i.invariant (c.in-Err.ensures.refused (c.args.line + c.loop-i.i))
 
 pub loop-i-preserved : goal.loop-i-preserved
-loop-i-preserved c = lead_taken c.args.steps.now c.loop-i.i c.at.result c.args.cells.now c.loop-i.cells _ c.at.ensures c.loop-i.invariant ?
+loop-i-preserved c = lead_taken c.args.steps.now c.loop-i.i c.at.result c.args.cells.now c.loop-i.cells c.make.new.cells c.at.ensures c.loop-i.invariant c.in-Ok.ensures.split

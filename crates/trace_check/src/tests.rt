@@ -1,15 +1,52 @@
 //! Worked claims, and what there is to say of each.
 
-use super::*;
-use pair_colours::NoMemory;
-use std::test::Fail;
-use trace_text::{TraceFault, read_trace};
+ghost use Rattle.std.specs.Prelude.{◌≡◌, ◌≤◌, length, IfOk};
 
-const fn accepted(points: u32, rank: u32, steps: u32) -> Verdict {
+use super::*;
+use pair_colours::{Colouring, NoMemory};
+use std::alloc::Global;
+use std::test::Fail;
+use trace_text::{Chain, Claim, Stage, Step, Steps};
+
+// The colouring of two points with these colours, row by row.
+fn coloured(alloc: Global, colours: [u32; 4]) -> Result<Colouring, NoMemory>
+    ensures { IfOk result (λ c. c.size ≡ 2) }
+{
+    let mut colouring = Colouring::new(alloc, 2, colours[0])?;
+    colouring.set(0, 1, colours[1]);
+    colouring.set(1, 0, colours[2]);
+    colouring.set(1, 1, colours[3]);
+    Ok(colouring)
+}
+
+// A stage of two points with two steps at most.
+fn stage(alloc: Global, colours: [u32; 4], steps: [Option<Step>; 2]) -> Result<Stage, NoMemory>
+    ensures points { IfOk result (λ stage. stage.colours.size ≡ 2) }
+    ensures few { IfOk result (λ stage. length stage.steps ≤ 2) }
+{
+    let mut made = Steps::new(alloc);
+    if let Some(step) = steps[0] {
+        made.push(step)?;
+    }
+    if let Some(step) = steps[1] {
+        made.push(step)?;
+    }
+    Ok(Stage {
+        colours: coloured(alloc, colours)?,
+        steps: made,
+    })
+}
+
+const ONE_COLOUR: [u32; 4] = [7, 7, 7, 7];
+const DIAGONAL: [u32; 4] = [0, 1, 1, 0];
+const DIRECTED: [u32; 4] = [0, 1, 2, 0];
+const DISCRETE: [u32; 4] = [0, 2, 3, 1];
+
+const fn accepted(rank: u32) -> Verdict {
     Verdict::Accepted {
-        points,
+        points: 2,
         rank,
-        steps,
+        steps: 1,
     }
 }
 
@@ -17,46 +54,73 @@ const fn refused(line: u32, what: CheckWord) -> Verdict {
     Verdict::Refused { line, what }
 }
 
+// Claims of one stage.
 #[test]
-fn worked_claims(rt: HostRuntime) {
-    let claims: [(&[u8], Verdict); 8] = [
+fn claims_of_one_stage(rt: HostRuntime) -> Result<(), Fail> {
+    let part = Some(Step::Diag { class: 0 });
+    let none = Some(Step::Diag { class: 5 });
+    let meet = Some(Step::Tri {
+        class: 0,
+        left: 1,
+        right: 2,
+    });
+    let idle = Some(Step::Tri {
+        class: 0,
+        left: 1,
+        right: 1,
+    });
+    let claims: [([u32; 4], [Option<Step>; 2], [u32; 4], Verdict); 7] = [
+        (ONE_COLOUR, [part, None], DIAGONAL, accepted(2)),
         (
-            b"trace 1\npoints 2\nstage\n7 7\n7 7\nD 0\nclosure\n0 1\n1 0\nend\n",
-            accepted(2, 2, 1),
-        ),
-        (
-            b"trace 1\npoints 2\nstage\n7 7\n7 7\nD 0\nD 0\nclosure\n0 1\n1 0\nend\n",
+            ONE_COLOUR,
+            [part, part],
+            DIAGONAL,
             refused(7, CheckWord::IdleStep),
         ),
         (
-            b"trace 1\npoints 2\nstage\n7 7\n7 7\nclosure\n0 1\n1 0\nend\n",
+            ONE_COLOUR,
+            [None, None],
+            DIAGONAL,
             refused(6, CheckWord::NotCoherent),
         ),
         (
-            b"trace 1\npoints 2\nstage\n7 7\n7 7\nD 5\nclosure\n0 1\n1 0\nend\n",
+            ONE_COLOUR,
+            [none, None],
+            DIAGONAL,
             refused(6, CheckWord::NoSuchClass),
         ),
         (
-            b"trace 1\npoints 2\nstage\n7 7\n7 7\nD 0\nclosure\n0 0\n0 0\nend\n",
+            ONE_COLOUR,
+            [part, None],
+            [0, 0, 0, 0],
             refused(7, CheckWord::WrongClosure),
         ),
+        (DIRECTED, [meet, None], DISCRETE, accepted(4)),
         (
-            b"trace 1\npoints 2\nstage\n0 1\n1 0\nstage\n0 0\n0 0\nclosure\n0 1\n1 0\nend\n",
-            refused(6, CheckWord::StageNotRefining),
-        ),
-        (
-            b"trace 1\npoints 2\nstage\n0 1\n2 0\nT 0 1 2\nclosure\n0 2\n3 1\nend\n",
-            accepted(2, 4, 1),
-        ),
-        (
-            b"trace 1\npoints 2\nstage\n0 1\n2 0\nT 0 1 1\nclosure\n0 2\n3 1\nend\n",
+            DIRECTED,
+            [idle, None],
+            DISCRETE,
             refused(6, CheckWord::IdleStep),
         ),
     ];
-    for (text, verdict) in claims {
-        match read_trace(rt.alloc(), text) {
-            Ok(claim) => assert_eq!(rt; check(rt.alloc(), &claim), Ok(verdict)),
-            Err(fault) => assert_eq!(rt; fault, TraceFault::NoMemory),
-        }
+    for (colours, steps, closure, verdict) in claims {
+        let mut chain = Chain::new(rt.alloc());
+        chain.push(stage(rt.alloc(), colours, steps)?)?;
+        let closure = coloured(rt.alloc(), closure)?;
+        let claim = Claim { chain, closure };
+        assert_eq!(rt; check(rt.alloc(), &claim), Ok(verdict));
     }
+    Ok(())
+}
+
+#[test]
+fn a_later_stage_that_does_not_refine(rt: HostRuntime) -> Result<(), Fail> {
+    let mut chain = Chain::new(rt.alloc());
+    chain.push(stage(rt.alloc(), DIAGONAL, [None, None])?)?;
+    chain.push(stage(rt.alloc(), [0, 0, 0, 0], [None, None])?)?;
+    let closure = coloured(rt.alloc(), DIAGONAL)?;
+    let claim = Claim { chain, closure };
+    let verdict = refused(6, CheckWord::StageNotRefining);
+    assert_eq!(rt; check(rt.alloc(), &claim), Ok(verdict));
+    Ok(())
 }

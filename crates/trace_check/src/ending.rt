@@ -3,31 +3,19 @@
 ghost use Rattle.std.specs.Prelude.{◌≡◌, ◌↔◌, IsTrue, IfOk, IfSome, IfNone};
 ghost use Rattle.pair_colours.specs.Closure.{Coherent};
 ghost use Rattle.pair_colours.specs.Naming.{named_of};
-ghost use Rattle.trace_text.specs.Split.{IsAllowed};
-ghost use Rattle.trace_text.specs.Partition.{IsPartition};
 ghost use Rattle.trace_check.specs.Ends.{EndFails};
 
 use crate::partitions::read_out;
 use pair_colours::{Colouring, NoMemory};
 use split_cells::Cells;
 use std::alloc::Global;
-use trace_text::{CheckWord, Step};
-
-// A stand-in for `Cells::first_fault`, until that is there.
-fn first_fault(alloc: Global, cells: &Cells) -> Result<Option<Step>, NoMemory>
-    ensures fault { IfOk result (λ found. IfSome found (λ step. IsAllowed cells.now step)) }
-    ensures coherent { IfOk result (λ found. IfNone found (Coherent cells.now)) }
-    ensures within { IsPartition cells.now }
-{
-    let _points = cells.size();
-    Err(NoMemory)
-}
+use trace_text::CheckWord;
 
 // Whether a partition is coherent.
 fn is_coherent(alloc: Global, cells: &Cells) -> Result<bool, NoMemory>
     ensures { IfOk result (λ answer. IsTrue answer ↔ Coherent cells.now) }
 {
-    let fault = first_fault(alloc, cells)?;
+    let fault = cells.first_fault(alloc)?;
     Ok(fault.is_none())
 }
 

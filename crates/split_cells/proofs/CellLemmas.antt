@@ -1,0 +1,243 @@
+-- The partition that `Cells` keeps, and what a step makes of it.
+use Rattle.std.proofs.Common.{◌≡◌, ◌≢◌, ◌↔◌, ◌==◌, ◌&&◌, nat_lt, ℕ, ◌+◌, ◌*◌, ◌/◌, ◌%◌, ◌^◌, ◌<◌, ◌≤◌, Bool, true, false, if◌then◌else◌, List, length, get_or, map, filter, count_by, replicate, All, ⊎_elim, refl, sym, ap, subst, ◌∙◌, arith, zero, suc}
+use Rattle.std.proofs.lemmas.Bool.{cases_eq, cases_lt, eq-eqb, eqb-true, ne_eqb, lt-ltb, le-ltb}
+use Rattle.std.proofs.lemmas.List.{length-map, ext_get_or, length-replicate, get_or-replicate, get_or_past}
+use Rattle.std.proofs.lemmas.List.FromFn.{length-range_with_len, get_or-map-range_with_len}
+use Rattle.std.proofs.lemmas.Nat.{div-add-mod', div-mul-add, mod-mul-add, mul-le}
+use Rattle.pair_colours.specs.declared.coloured_pairs.TheConstants.{MOST_POINTS}
+use Rattle.pair_colours.specs.Colouring.{PairColouring, IsColouring, colour_at, points}
+use Rattle.pair_colours.specs.Naming.{walk, first_met, named_of, rank_of}
+use Rattle.pair_colours.proofs.Counts.{unit_of, count_by-map, count_by_points}
+use Rattle.pair_colours.proofs.ListLemmas.{Each-weaker, map_agree}
+use Rattle.pair_colours.proofs.Names.{InSquare, Each-walk}
+use Rattle.pair_colours.proofs.Places.{place_below, row_below, column_below}
+use Rattle.trace_text.specs.declared.step_list.Step.{Step}
+use Rattle.trace_text.specs.declared.step_list.Step.TheVariants.{Diag, Flip, Tri}
+use Rattle.trace_text.specs.Partition.{IsPartition}
+use Rattle.trace_text.specs.Split.{HasParts, numbers_of, split_of}
+use Rattle.trace_text.specs.Parts.{keys_in, part_number, class_parted_by}
+use Rattle.trace_text.proofs.LawProofs.{parts_one_class, parts_two_keys}
+use Rattle.trace_text.proofs.Partitions.{UsesBelow, rank_from_used, IsPartition-from_used, IsPartition-named_of}
+use Rattle.split_cells.specs.declared.classed_pairs.ClassedPairs.{ClassedPairs}
+use Rattle.split_cells.specs.Segments.{IsMembers}
+use Rattle.split_cells.specs.Counts.{Counts}
+use Rattle.split_cells.specs.Grids.{IsUsed, grid}
+use Rattle.split_cells.specs.Pairs.{partition_of}
+use Rattle.split_cells.specs.Keys.{IsGathered, IsBlank, class_of, key_inside, key_at, counts_in}
+use Rattle.split_cells.specs.Sorted.{IsNumbered}
+use Rattle.split_cells.specs.Parts.{IsParted, part_from}
+use Rattle.split_cells.specs.Kept.{IsKept}
+use Rattle.split_cells.proofs.FirstSides.{count_one_more, count_none}
+use Rattle.split_cells.proofs.PartLemmas.{Each-passed}
+
+-- the classes of a grid with the numbers below r in use
+module _ (size : ℕ) (class : List ℕ) (r : ℕ) (some : 1 ≤ size) (len : length class ≡ size * size) (below : (p : ℕ) → p < length class → get_or class p 0 < r) (used : IsUsed class r) where
+  abbrev P : PairColouring
+  P = grid size class
+
+  pub IsColouring-grid : IsColouring P
+  IsColouring-grid = record { has_points = some; has_pairs = len }
+
+  UsesBelow-grid : UsesBelow P r
+  UsesBelow-grid = record {
+    below = λ x y hx hy. below (x * size + y) (omega (arith, len, place_below size x y hx hy));
+    used = λ k l.
+        let u = used k l in
+        let inside : u.number < size * size = omega (arith, u.inside, len) in
+        record {
+          x = u.number / size;
+          y = u.number % size;
+          row = row_below size u.number some inside;
+          column = column_below size u.number some;
+          is = ap (λ q. get_or class q 0) (div-add-mod' u.number size) ∙ u.member;
+        };
+  }
+
+  pub rank_is : rank_of P ≡ r
+  rank_is = rank_from_used P r UsesBelow-grid
+
+  pub IsPartition-grid : IsPartition P
+  IsPartition-grid = IsPartition-from_used P r IsColouring-grid UsesBelow-grid
+
+-- a step splits its class by its key
+split_by_key : (P : PairColouring) (s : Step) → IsColouring P → split_of P s ≡ class_parted_by P (class_of s) (key_inside P s)
+split_by_key P (Diag k) a = parts_one_class P k (key_inside P (Diag k)) a
+split_by_key P (Flip k other) a = parts_one_class P k (key_inside P (Flip k other)) a
+split_by_key P (Tri k left right) a = parts_one_class P k (key_inside P (Tri k left right)) a
+
+pub parts_from_keys : (P : PairColouring) (s : Step) → HasParts P s ↔ (2 ≤ length (keys_in P (class_of s) (key_inside P s)))
+parts_from_keys P (Diag k) = parts_two_keys P k (key_inside P (Diag k))
+parts_from_keys P (Flip k other) = parts_two_keys P k (key_inside P (Flip k other))
+parts_from_keys P (Tri k left right) = parts_two_keys P k (key_inside P (Tri k left right))
+
+-- the counts of a list that has the key of each pair of the class are the keys
+pub keys_of_counts : (size : ℕ) (class counts : List ℕ) (s : Step) → length class ≡ size * size
+    → ((p : ℕ) → p < length class → get_or class p 0 ≡ class_of s → get_or counts p 0 ≡ key_at (grid size class) s p)
+    → counts_in size class counts (class_of s) ≡ keys_in (grid size class) (class_of s) (key_inside (grid size class) s)
+keys_of_counts size class counts s len inside =
+    ap first_met (map_agree count_of key_of (filter in_class (walk size))
+    (Each-weaker (λ p. InSquare size p × (in_class p ≡ true)) (λ p. count_of p ≡ key_of p)
+    (λ p h.
+    let x = p.0 in
+    let y = p.1 in
+    inside (x * size + y) (omega (arith, len, place_below size x y h.0.0 h.0.1)) (eqb-true _ (class_of s) h.1)
+    ∙ (λ i. key_inside (grid size class) s (div-mul-add x size y h.0.1 i) (mod-mul-add x size y h.0.1 i)))
+    (filter in_class (walk size))
+    (Each-passed (InSquare size) in_class (walk size) (Each-walk size))))
+  where
+    count_of : ℕ × ℕ → ℕ
+    count_of p = get_or counts (p.0 * size + p.1) 0
+
+    key_of : ℕ × ℕ → ℕ
+    key_of p = key_inside (grid size class) s p.0 p.1
+
+    in_class : ℕ × ℕ → Bool
+    in_class p = colour_at (grid size class) p.0 p.1 == class_of s
+
+-- the parts that were made are those of the step
+module _ (size : ℕ) (class counts new : List ℕ) (s : Step) (r : ℕ) (some : 1 ≤ size) (len : length class ≡ size * size) (rank : rank_of (grid size class) ≡ r)
+    (g : IsGathered class (class_of s) (key_at (grid size class) s) counts) (h : IsParted size class counts (class_of s) r new) where
+  pub keys_gathered : counts_in size class counts (class_of s) ≡ keys_in (grid size class) (class_of s) (key_inside (grid size class) s)
+  keys_gathered = keys_of_counts size class counts s len g.inside
+
+  abbrev part_at : ℕ → ℕ
+  part_at key = part_number (grid size class) (class_of s) (count_by (λ w. nat_lt w key) (keys_in (grid size class) (class_of s) (key_inside (grid size class) s)))
+
+  abbrev after : ℕ → ℕ
+  after p = if colour_at (grid size class) (p / size) (p % size) == class_of s then part_at (key_at (grid size class) s p) else colour_at (grid size class) (p / size) (p % size)
+
+  at : (p : ℕ) → p < size * size → get_or new p 0 ≡ after p
+  at p l =
+      let inside : p < length class = omega (arith, l, len) in
+      let back : colour_at (grid size class) (p / size) (p % size) ≡ get_or class p 0 = ap (λ q. get_or class q 0) (div-add-mod' p size) in
+      ⊎_elim
+      (λ e.
+      h.parts p inside e
+      ∙ (λ i. part_from (sym rank i) (class_of s) (count_by (λ w. nat_lt w (g.inside p inside e i)) (keys_gathered i)))
+      ∙ sym (ap (λ b. if b then part_at (key_at (grid size class) s p) else colour_at (grid size class) (p / size) (p % size)) (eq-eqb _ _ (back ∙ e))))
+      (λ ne.
+      h.others p inside ne ∙ sym back
+      ∙ sym (ap (λ b. if b then part_at (key_at (grid size class) s p) else colour_at (grid size class) (p / size) (p % size)) (ne_eqb _ _ (λ f. ne (sym back ∙ f)))))
+      (cases_eq (get_or class p 0) (class_of s))
+
+  pub split_made : grid size new ≡ split_of (grid size class) s
+  split_made =
+      ap (grid size) (ext_get_or 0 new (map after (points (size * size)))
+      (h.len ∙ len ∙ sym (length-range_with_len 0 (size * size)) ∙ sym (length-map (points (size * size)) after))
+      (λ p l.
+      let low : p < size * size = omega (arith, l, h.len, len) in
+      at p low ∙ sym (get_or-map-range_with_len after 0 (size * size) p p 0 low (omega arith))))
+      ∙ sym (split_by_key (grid size class) s (record { has_points = some; has_pairs = len }))
+
+-- how many pairs a class has
+module _ {class : List ℕ} {k : ℕ} {at : ℕ → ℕ} {members : List ℕ} (m : IsMembers class k at members) where
+  -- the pair is among the first a members
+  abbrev is_among : ℕ → ℕ → Bool
+  is_among a p = (get_or class p 0 == k) && nat_lt (at p) a
+
+  first_members : (a : ℕ) → a ≤ length members → count_by (is_among a) (points (length class)) ≡ a
+  first_members zero l = count_none (is_among 0) (length class) (λ p h. second_false (get_or class p 0 == k) _ (le-ltb (at p) 0 (omega arith)))
+    where
+      second_false : (s t : Bool) → t ≡ false → (s && t) ≡ false
+      second_false true t e = e
+      second_false false t e = refl
+  first_members (suc a) l =
+      let low : a < length members = omega (arith, l) in
+      let p = get_or members a 0 in
+      let one = count_one_more (is_among a) (is_among (suc a)) (length class) p (m.inside a low)
+      (λ q hq ne. ⊎_elim
+      (λ e. ap (λ t. (get_or class q 0 == k) && t) (same_lt q (λ f. ne (sym (m.is q hq e) ∙ ap (λ b. get_or members b 0) f))))
+      (λ out. (λ i. ne_eqb _ _ out i && nat_lt (at q) a) ∙ sym (λ i. ne_eqb _ _ out i && nat_lt (at q) (suc a)))
+      (cases_eq (get_or class q 0) k))
+      ((λ i. eq-eqb _ _ (m.member a low) i && le-ltb (at p) a (omega (arith, m.back a low)) i)) in
+      let now : is_among (suc a) p ≡ true = λ i. eq-eqb _ _ (m.member a low) i && lt-ltb (at p) (suc a) (omega (arith, m.back a low)) i in
+      omega (arith, one, first_members a (omega (arith, l)), ap unit_of now)
+    where
+      same_lt : (q : ℕ) → at q ≢ a → nat_lt (at q) a ≡ nat_lt (at q) (suc a)
+      same_lt q ne =
+          ⊎_elim
+          (λ b. lt-ltb _ _ b ∙ sym (lt-ltb (at q) (suc a) (omega (arith, b))))
+          (λ b. le-ltb _ _ b ∙ sym (le-ltb (at q) (suc a) (omega (arith, b, ne))))
+          (cases_lt (at q) a)
+
+  pub members_counted : count_by (λ c. c == k) class ≡ length members
+  members_counted =
+      ap (count_by (λ c. c == k)) listed
+      ∙ count_by-map (λ c. c == k) (λ p. get_or class p 0) (points (length class))
+      ∙ count_by_points (λ p. get_or class p 0 == k) (is_among (length members)) (length class) (λ p l. ⊎_elim
+      (λ e. eq-eqb _ _ e ∙ sym (λ i. eq-eqb _ _ e i && lt-ltb (at p) (length members) (m.listed p l e) i))
+      (λ ne. ne_eqb _ _ ne ∙ sym (λ i. ne_eqb _ _ ne i && nat_lt (at p) (length members)))
+      (cases_eq (get_or class p 0) k))
+      ∙ first_members (length members) (omega arith)
+    where
+      listed : class ≡ map (λ p. get_or class p 0) (points (length class))
+      listed =
+          ext_get_or 0 class (map (λ p. get_or class p 0) (points (length class)))
+          (sym (length-range_with_len 0 (length class)) ∙ sym (length-map (points (length class)) (λ p. get_or class p 0)))
+          (λ p l. sym (get_or-map-range_with_len (λ p. get_or class p 0) 0 (length class) p p 0 l (omega arith)))
+
+-- what is kept is a partition
+module _ {pairs : ClassedPairs} {t : Counts} (h : IsKept pairs t) where
+  len_kept : length pairs.parting.class.items ≡ pairs.size * pairs.size
+  len_kept = h.classed.parting.classes ∙ h.classed.bound
+
+  below_kept : (p : ℕ) → p < length pairs.parting.class.items → get_or pairs.parting.class.items p 0 < pairs.parting.rank
+  below_kept p l = h.classed.parting.class_in p (omega (arith, l, h.classed.parting.classes))
+
+  pub rank_kept : rank_of (partition_of pairs) ≡ pairs.parting.rank
+  rank_kept = rank_is pairs.size pairs.parting.class.items pairs.parting.rank h.classed.some len_kept below_kept h.used
+
+  pub IsPartition-kept : IsPartition (partition_of pairs)
+  IsPartition-kept = IsPartition-grid pairs.size pairs.parting.class.items pairs.parting.rank h.classed.some len_kept below_kept h.used
+
+  -- a step that was made
+  module _ (step : Step) (k : ℕ) (counts new : List ℕ) (is : k ≡ class_of step) (g : IsGathered pairs.parting.class.items (class_of step) (key_at (partition_of pairs) step) counts) where
+    pub parts_kept : HasParts (partition_of pairs) step ↔ (2 ≤ length (counts_in pairs.size pairs.parting.class.items counts k))
+    parts_kept =
+        let keys = ap (counts_in pairs.size pairs.parting.class.items counts) is ∙ keys_of_counts pairs.size pairs.parting.class.items counts step len_kept g.inside in
+        let two = parts_from_keys (partition_of pairs) step in
+        (λ x. subst (λ l. 2 ≤ length l) (sym keys) (two.0 x), λ x. two.1 (subst (λ l. 2 ≤ length l) keys x))
+
+    pub split_kept : IsParted pairs.size pairs.parting.class.items counts k pairs.parting.rank new → grid pairs.size new ≡ split_of (partition_of pairs) step
+    split_kept p =
+        split_made pairs.size pairs.parting.class.items counts new step pairs.parting.rank h.classed.some len_kept rank_kept g
+        (subst (λ c. IsParted pairs.size pairs.parting.class.items counts c pairs.parting.rank new) is p)
+
+-- the class of a step is among those that it names
+pub names_class : (r : ℕ) (s : Step) → All (λ number. number < r) (numbers_of s) → class_of s < r
+names_class r (Diag k) h = h 0 0 (omega arith)
+names_class r (Flip k other) h = h 0 0 (omega arith)
+names_class r (Tri k left right) h = h 0 0 (omega arith)
+
+-- a colouring that is canonically named is a partition
+pub IsPartition-named : (K : PairColouring) → IsColouring K → named_of K ≡ K → IsPartition K
+IsPartition-named K a named = subst IsPartition named (IsPartition-named_of K a)
+
+-- a partition numbers its classes
+pub IsNumbered-partition : (Q : PairColouring) → IsPartition Q → IsNumbered Q.colours
+IsNumbered-partition Q h = record {
+  rank = rank_of Q;
+  some = omega (arith, h.below 0 0 h.colouring.has_points h.colouring.has_points);
+  below = λ p l.
+      let low : p < Q.size * Q.size = omega (arith, l, h.colouring.has_pairs) in
+      omega (arith, ap (λ q. get_or Q.colours q 0) (div-add-mod' p Q.size), h.below (p / Q.size) (p % Q.size) (row_below Q.size p h.colouring.has_points low) (column_below Q.size p h.colouring.has_points));
+  used = λ k l.
+      let u = h.used k l in
+      record { number = u.x * Q.size + u.y; inside = omega (arith, h.colouring.has_pairs, place_below Q.size u.x u.y u.row u.column); member = u.is };
+}
+
+pub few_pairs : (n : ℕ) → n ≤ MOST_POINTS → n * n < 2 ^ 31
+few_pairs n limit = omega (arith, mul-le n n MOST_POINTS MOST_POINTS limit limit)
+
+pub some_pairs : (n m : ℕ) → 1 ≤ n → m ≡ n * n → n ≤ MOST_POINTS → (0 < m) × (m < 2 ^ 31)
+some_pairs n m some e limit = (omega (arith, e, place_below n 0 0 some some), omega (arith, e, few_pairs n limit))
+
+-- counts that are all 0
+pub IsBlank-zeros : (class counts : List ℕ) (n : ℕ) → length class ≡ n → counts ≡ replicate n 0 → IsBlank class counts
+IsBlank-zeros class counts n l c = record {
+  len = ap length c ∙ length-replicate {A = ℕ} n 0 ∙ sym l;
+  zero_everywhere = λ p. ⊎_elim
+      (λ b. ap (λ xs. get_or xs p 0) c ∙ get_or-replicate n p 0 0 b)
+      (λ b. get_or_past counts p 0 (omega (arith, ap length c, length-replicate {A = ℕ} n 0, b)))
+      (cases_lt p n);
+}

@@ -1,0 +1,10 @@
+mod SegmentLemmas
+mod TallyLemmas
+mod GatherLemmas
+mod FirstSides
+mod SecondSides
+mod NestedSides
+mod KeyLemmas
+mod PartLemmas
+mod BuildLemmas
+mod CellLemmas

@@ -1,0 +1,10 @@
+pub mod Segments
+pub mod Grids
+pub mod Pairs
+pub mod Counts
+pub mod Keys
+pub mod Sides
+pub mod Parts
+pub mod Sorted
+pub mod Kept
+pub mod Faults

@@ -1,0 +1,29 @@
+//! The cells of a closure in the making: the pairs of points, parted into numbered classes, and the
+//! steps that split one class.
+//!
+//! * `cells`: `Cells`, a partition that carries out steps.
+//! * `faults`: whether a partition is coherent, or else by what it can be split.
+//! * `codes`: the triangles on two pairs, compared by short numbers of colours.
+//! * `splitting`: the parts of a class, by the keys of its pairs.
+//! * `gathering`: those keys; `triangle_counts`: those of triangles.
+//! * `building`: classes from the class of each pair.
+//! * `classed_pairs`: `ClassedPairs`, the pairs of points in numbered classes.
+//! * `partings`: `Parting`, numbered classes, each a segment of one list.
+//! * `sizes`: `Size`, the number of points, and the points of each pair.
+//! * `tallies`: `Tally`, counts of which few are not 0.
+//!
+//! Definitions of steps and splits stand in `trace_text`.
+#![tactic(auto)]
+
+mod building;
+mod cells;
+mod classed_pairs;
+mod gathering;
+mod partings;
+mod sizes;
+mod splitting;
+mod tallies;
+mod triangle_counts;
+
+pub use cells::Cells;
+

@@ -1,0 +1,113 @@
+//! The stages of a claim, gone through step by step.
+
+ghost use Rattle.std.specs.Prelude.{◌≡◌, ℕ, ◌∷◌, [], ◌+◌, ◌^◌, ◌<◌, length, OnOk, IfOk, IfErr, IfSome, IfNone};
+ghost use Rattle.pair_colours.specs.Colouring.{IsColouring};
+ghost use Rattle.trace_text.specs.Split.{IsSplit, Lead};
+ghost use Rattle.trace_text.specs.Chains.{Follows, IsStageOf, stage_end, stage_start};
+ghost use Rattle.trace_text.specs.BadLines.{IsFirstFailing, line_count_of_stage, stage_conditions, step_conditions};
+ghost use Rattle.trace_text.proofs.Stages.{IsEnd};
+ghost use Rattle.trace_check.specs.Ends.{before_of, ended_of};
+
+use crate::partitions::{first_start, later_start};
+use pair_colours::{Colouring, NoMemory};
+use split_cells::Cells;
+use std::alloc::Global;
+use trace_text::{CheckWord, Stage, Step, Steps};
+
+// A line that is bad, and what is wrong there.
+#[derive(Clone, Copy)]
+pub(crate) struct BadLine {
+    pub(crate) line: u32,
+    pub(crate) what: CheckWord,
+}
+
+// Makes a step, or tells why it is bad.
+fn make(cells: &mut Cells, step: Step) -> Result<(), CheckWord>
+    ensures split { OnOk result (IsSplit cells.old step cells.new) }
+    ensures refused { IfErr result (λ what. (line : ℕ) → IsFirstFailing (step_conditions line cells.old (step ∷ [])) line what) }
+{
+    if !cells.names(step) {
+        return Err(CheckWord::NoSuchClass);
+    }
+    if !cells.split(step) {
+        return Err(CheckWord::IdleStep);
+    }
+    Ok(())
+}
+
+// Makes the steps, the first of which stands on this line, up to the first that is bad.
+fn follow(cells: &mut Cells, steps: &Steps, line: u32) -> Result<(), BadLine>
+    requires { line + length steps.now < 2 ^ 32 }
+    ensures led { OnOk result (Lead steps.now cells.old cells.new) }
+    ensures refused { IfErr result (λ bad. IsFirstFailing (step_conditions line cells.old steps.now) bad.line bad.what) }
+{
+    for i in 0..steps.len() {
+        if let Err(what) = make(cells, steps.at(i)) {
+            return Err(BadLine {
+                line: line + i,
+                what,
+            });
+        }
+    }
+    Ok(())
+}
+
+// A stage that was gone through: its colours, and the partition after its steps.
+#[derive(Drop)]
+pub(crate) struct Ended<'a> {
+    pub(crate) colours: &'a Colouring,
+    pub(crate) cells: Cells,
+}
+
+// Where a stage of these colours starts, unless they do not refine those of the stage before.
+fn start(
+    alloc: Global,
+    before: &Option<Ended<'_>>,
+    colours: &Colouring,
+) -> Result<Option<Cells>, NoMemory>
+    requires before { IsEnd (before_of before.now) }
+    requires colours { IsColouring colours.now }
+    ensures start { IfOk result (λ start. IfSome start (λ cells. cells ≡ stage_start (before_of before.now) colours.now)) }
+    ensures follows { IfOk result (λ start. IfSome start (λ _. Follows (before_of before.now) colours.now)) }
+    ensures none { IfOk result (λ start. IfNone start (¬ Follows (before_of before.now) colours.now)) }
+{
+    match before {
+        None => Ok(Some(first_start(alloc, colours)?)),
+        Some(end) => {
+            if !colours.refines(alloc, end.colours)? {
+                return Ok(None);
+            }
+            Ok(Some(later_start(alloc, colours, &end.cells)?))
+        }
+    }
+}
+
+// Where a stage that begins with this line ends, or its first bad line.
+pub(crate) fn replay<'a>(
+    alloc: Global,
+    before: &Option<Ended<'_>>,
+    stage: &'a Stage,
+    line: u32,
+) -> Result<Result<Ended<'a>, BadLine>, NoMemory>
+    requires before { IsEnd (before_of before.now) }
+    requires lines { line + line_count_of_stage stage.now < 2 ^ 32 }
+    ensures ended { IfOk result (λ end. IfOk end (λ end. ended_of end ≡ stage_end (before_of before.now) stage.now)) }
+    ensures stage { IfOk result (λ end. IfOk end (λ end. IsStageOf (before_of before.now) stage.now (ended_of end).partition)) }
+    ensures between { IfOk result (λ end. IfOk end (λ end. IsEnd (Some (ended_of end)))) }
+    ensures refused { IfOk result (λ end. IfErr end (λ bad. IsFirstFailing (stage_conditions line (before_of before.now) stage.now) bad.line bad.what)) }
+{
+    let first_step = line + 1 + stage.colours.size();
+    let Some(mut cells) = start(alloc, before, &stage.colours)? else {
+        return Ok(Err(BadLine {
+            line,
+            what: CheckWord::StageNotRefining,
+        }));
+    };
+    match follow(&mut cells, &stage.steps, first_step) {
+        Ok(()) => Ok(Ok(Ended {
+            colours: &stage.colours,
+            cells,
+        })),
+        Err(bad) => Ok(Err(bad)),
+    }
+}

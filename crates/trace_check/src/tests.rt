@@ -1,0 +1,1 @@
+//! Worked claims, and what there is to say of each.

@@ -9,12 +9,7 @@ use text_lines::Text;
 use trace_check::{CheckWord, Verdict};
 
 // An accepted claim.
-fn accepted_text(
-    alloc: Global,
-    points: u32,
-    rank: u32,
-    steps: u32,
-) -> Result<Vec<u8>, NoMemory>
+fn accepted_text(alloc: Global, points: u32, rank: u32, steps: u32) -> Result<Vec<u8>, NoMemory>
     ensures { IfOk result (λ text. text.items ≡ accepted_text_of points rank steps) }
 {
     let mut text = Text::new(alloc);

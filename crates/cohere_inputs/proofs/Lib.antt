@@ -1,6 +1,7 @@
 mod Pieces
 mod BuiltActs
 mod ReadFiles
+mod ClaimLength
 mod TraceFiles
 mod RunFiles
 mod FirstBad

@@ -1,5 +1,5 @@
 -- What is known of a trace that was loaded and read.
-use Rattle.std.proofs.Common.{◌≡◌, ◌≤◌, ℕ, List, length, sym, ap, subst, ◌∙◌}
+use Rattle.std.proofs.Common.{◌≡◌, ◌^◌, ◌<◌, ◌≤◌, ℕ, List, length, sym, ap, subst, ◌∙◌}
 use Rattle.std.specs.Prelude.{Option, Some, None, IfSome}
 use Rattle.scheme_io.specs.Files.{Files, Holds}
 use Rattle.trace_text.specs.declared.limits.TheConstants.{MOST_TRACE}
@@ -7,13 +7,15 @@ use Rattle.trace_text.specs.declared.stage_list.Claim.{Claim}
 use Rattle.trace_text.specs.declared.trace_faults.TraceFault.{TraceFault}
 use Rattle.trace_text.specs.declared.trace_faults.TraceFault.TheVariants.{Text, NoMemory}
 use Rattle.trace_text.specs.declared.trace_faults.TraceWord.{TraceWord}
+use Rattle.trace_text.specs.BadLines.{line_count}
 use Rattle.trace_text.specs.ClaimTexts.{IsTraceText}
 use Rattle.trace_text.specs.Reading.{IsFaultOf}
 use Rattle.trace_text.specs.TraceFault.{trace_fault}
 use Rattle.cohere_inputs.specs.declared.faults.FileFault.TheVariants.{Trace}
 use Rattle.cohere_inputs.specs.Needs.{trace_need}
-use Rattle.cohere_inputs.specs.Bad.{HasTrace, IsTraceFile, IsFault}
+use Rattle.cohere_inputs.specs.Bad.{IsTraceFile, IsFault}
 use Rattle.cohere_inputs.specs.Unread.{IsCause, unread_trace}
+use Rattle.cohere_inputs.proofs.ClaimLength.{few_lines}
 
 -- the file that was loaded is a trace of the claim that was read of it
 pub trace_file : (files : Option Files) (name bytes view : List ℕ) (claim : Claim) → view ≡ bytes → Holds files name bytes → length bytes ≤ MOST_TRACE
@@ -22,8 +24,9 @@ trace_file None name bytes view claim same found short read = tt
 trace_file (Some files) name bytes view claim same found short read =
     record { bytes = bytes; file = record { holds = found; short = short }; reads = subst (λ (b : List ℕ). IsTraceText b claim) same read }
 
-pub has_trace : (bytes view : List ℕ) (claim : Claim) → view ≡ bytes → length bytes ≤ MOST_TRACE → IsTraceText view claim → HasTrace claim
-has_trace bytes view claim same short read = record { bytes = bytes; short = short; reads = subst (λ (b : List ℕ). IsTraceText b claim) same read }
+-- which has few lines
+pub trace_lines_fit : (bytes view : List ℕ) (claim : Claim) → view ≡ bytes → length bytes ≤ MOST_TRACE → IsTraceText view claim → line_count claim < 2 ^ 32
+trace_lines_fit bytes view claim same short read = few_lines bytes claim short (subst (λ (b : List ℕ). IsTraceText b claim) same read)
 
 -- and its fault is that of the file
 trace_fault_of : (files : Option Files) (name bytes view : List ℕ) (line : ℕ) (what : TraceWord) → view ≡ bytes → Holds files name bytes → length bytes ≤ MOST_TRACE

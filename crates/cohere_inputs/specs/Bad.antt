@@ -6,7 +6,6 @@ use Rattle.scheme_io.specs.Files.{Files}
 use Rattle.pair_colours.specs.Colouring.{PairColouring}
 use Rattle.relation_text.specs.Relation.{IsRelationText}
 use Rattle.script_text.specs.declared.acts.Line.{Line}
-use Rattle.trace_text.specs.declared.limits.TheConstants.{MOST_TRACE}
 use Rattle.trace_text.specs.declared.stage_list.Claim.{Claim}
 use Rattle.trace_text.specs.ClaimTexts.{IsTraceText}
 use Rattle.cohere_inputs.specs.declared.faults.FileFault.{FileFault}
@@ -74,10 +73,4 @@ pub record IsScriptFile (files : Files) (name : List ℕ) (lines : List Line) : 
 pub record IsTraceFile (files : Files) (name : List ℕ) (claim : Claim) : Type 0 where
   pub bytes : List ℕ
   pub file : HoldsWithin files (trace_need name) bytes
-  pub reads : IsTraceText bytes claim
-
--- some text within the limit of a trace is one of this claim
-pub record HasTrace (claim : Claim) : Type 0 where
-  pub bytes : List ℕ
-  pub short : length bytes ≤ MOST_TRACE
   pub reads : IsTraceText bytes claim

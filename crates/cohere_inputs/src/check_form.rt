@@ -1,8 +1,9 @@
 //! The form `check TRACE`: its words, and what is read for it.
 
-ghost use Rattle.std.specs.Prelude.{◌≡◌, ◌≤◌, Some, None, MatchOption, IfSome, IfOk, IfErr};
+ghost use Rattle.std.specs.Prelude.{◌≡◌, ◌^◌, ◌<◌, ◌≤◌, length, Some, None, MatchOption, IfSome, IfOk, IfErr};
 ghost use Rattle.scheme_io.specs.Count.{Rose};
-ghost use Rattle.cohere_inputs.specs.Bad.{HasTrace, IsTraceFile};
+ghost use Rattle.trace_text.specs.BadLines.{line_count};
+ghost use Rattle.cohere_inputs.specs.Bad.{IsTraceFile};
 ghost use Rattle.cohere_inputs.specs.CheckForm.{check_in};
 ghost use Rattle.cohere_inputs.specs.Task.{Check};
 ghost use Rattle.cohere_inputs.specs.Unread.{Halts};
@@ -32,7 +33,8 @@ pub fn check_input<'a, S: Store>(
 ) -> Result<Claim, Halt<'a>>
     ensures same_files { S.files store.new ≡ S.files store.old }
     ensures later { S.faults store.old ≤ S.faults store.new }
-    ensures has_trace { IfOk result HasTrace }
+    ensures has_stage { IfOk result (λ claim. 1 ≤ length claim.chain) }
+    ensures lines { IfOk result (λ claim. line_count claim < 2 ^ 32) }
     ensures read { IfOk result (λ claim. IfSome (S.files store.old) (λ files. IsTraceFile files trace.now claim)) }
     ensures halt { IfErr result (λ halt.
         Halts (S.files store.old) (Check trace.now) halt.name.now halt.why (Rose (S.faults store.old) (S.faults store.new))) }

@@ -1,10 +1,11 @@
 //! A file that holds a relation, a script or a trace.
 
-ghost use Rattle.std.specs.Prelude.{◌≡◌, ◌≤◌, IfOk, IfErr, IfSome};
+ghost use Rattle.std.specs.Prelude.{◌≡◌, ◌^◌, ◌<◌, ◌≤◌, length, IfOk, IfErr, IfSome};
 ghost use Rattle.scheme_io.specs.Count.{Rose};
 ghost use Rattle.pair_colours.specs.Colouring.{IsRawColouring};
+ghost use Rattle.trace_text.specs.BadLines.{line_count};
 ghost use Rattle.cohere_inputs.specs.Acts.{is_built, AreBuilt, first_unbuilt};
-ghost use Rattle.cohere_inputs.specs.Bad.{HasTrace, IsRelationFile, IsScriptFile, IsTraceFile};
+ghost use Rattle.cohere_inputs.specs.Bad.{IsRelationFile, IsScriptFile, IsTraceFile};
 ghost use Rattle.cohere_inputs.specs.Kind as kinds;
 ghost use Rattle.cohere_inputs.specs.Needs.{relation_need, script_need, trace_need};
 ghost use Rattle.cohere_inputs.specs.Unread.{IsCause, IsUnreadAs};
@@ -96,7 +97,8 @@ pub(crate) fn script_in<S: Store>(
 pub(crate) fn claim_in<S: Store>(alloc: Global, store: &mut S, name: &str) -> Result<Claim, Unread>
     ensures same_files { S.files store.new ≡ S.files store.old }
     ensures later { S.faults store.old ≤ S.faults store.new }
-    ensures has_trace { IfOk result HasTrace }
+    ensures has_stage { IfOk result (λ claim. 1 ≤ length claim.chain) }
+    ensures lines { IfOk result (λ claim. line_count claim < 2 ^ 32) }
     ensures read { IfOk result (λ claim. IfSome (S.files store.old) (λ files. IsTraceFile files name.now claim)) }
     ensures cause { IfErr result (λ why.
         IsCause (S.files store.old) (trace_need name.now) why (Rose (S.faults store.old) (S.faults store.new))) }

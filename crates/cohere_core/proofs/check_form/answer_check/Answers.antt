@@ -1,6 +1,5 @@
 use Rattle.std.proofs.Common.{sym, subst}
 use Rattle.scheme_io.specs.Count.{Rose}
-use Rattle.trace_check.proofs.ClaimLength.{few_lines}
 use Rattle.cohere_inputs.specs.Task.{Check}
 use Rattle.cohere_inputs.specs.Said.{AddsLine}
 use Rattle.cohere_core.specs.declared.status.Status.{Status}
@@ -30,10 +29,3 @@ returns-in-Err-clause-complete g c =
     let rose = Rose (g.S.Store.faults c.args.store.now) (g.S.Store.faults c.check_input.new.store) in
     λ calm still. subst (λ (s : Status). IsStatusWithoutFaults (Check c.args.trace.now) s files) (sym c.report.ensures.status)
     (halted_completely files c.args.trace.now c.in-Err.halt.name.now c.in-Err.halt.why rose c.in-Err.ensures.halt calm)
-
-pub judge-requires-clause-has_stage : goal.judge-requires-clause-has_stage
-judge-requires-clause-has_stage g c = c.in-Ok.ensures.has_trace.reads.lines.fits.has_stage
-
-pub judge-requires-clause-lines : goal.judge-requires-clause-lines
-judge-requires-clause-lines g c =
-    let trace = c.in-Ok.ensures.has_trace in few_lines trace.bytes c.in-Ok.claim trace.short trace.reads

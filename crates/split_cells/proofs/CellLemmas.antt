@@ -27,7 +27,7 @@ use Rattle.split_cells.specs.Keys.{IsGathered, IsBlank, class_of, key_inside, ke
 use Rattle.split_cells.specs.Sorted.{IsNumbered}
 use Rattle.split_cells.specs.Parts.{IsParted, part_from}
 use Rattle.split_cells.specs.Kept.{IsKept}
-use Rattle.split_cells.proofs.FirstSides.{count_one_more, count_none}
+use Rattle.split_cells.proofs.PointCounts.{count_one_more, count_none}
 use Rattle.split_cells.proofs.PartLemmas.{Each-passed}
 
 -- the classes of a grid with the numbers below r in use

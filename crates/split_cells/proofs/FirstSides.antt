@@ -1,11 +1,10 @@
 -- Triangles counted over their first sides.
-use Rattle.std.proofs.Common.{◌≡◌, ◌≢◌, ◌==◌, ◌&&◌, nat_lt, ℕ, ◌+◌, ◌-◌, ◌*◌, ◌/◌, ◌%◌, ◌^◌, ◌<◌, ◌≤◌, Bool, true, false, List, length, get_or, set, count_by, ⊎_elim, refl, sym, ap, subst, ◌∙◌, arith, zero, suc}
+use Rattle.std.proofs.Common.{◌≡◌, ◌≢◌, ◌==◌, ◌&&◌, nat_lt, ℕ, ◌+◌, ◌-◌, ◌*◌, ◌/◌, ◌%◌, ◌^◌, ◌<◌, ◌≤◌, Bool, true, false, List, length, get_or, set, count_by, ⊎_elim, refl, sym, ap, subst, ◌∙◌, arith}
 use Rattle.std.proofs.lemmas.Bool.{cases_eq, cases_lt, eq-eqb, ne_eqb, lt-ltb, le-ltb}
 use Rattle.std.proofs.lemmas.List.{length-set, get_or-set_same, get_or_past}
-use Rattle.std.proofs.lemmas.List.Sums.{sum_by_push}
 use Rattle.std.proofs.lemmas.Nat.{div-add-mod', same_from_place}
 use Rattle.pair_colours.specs.Colouring.{points}
-use Rattle.pair_colours.proofs.Counts.{unit_of, points_more, count_by_points}
+use Rattle.pair_colours.proofs.Counts.{unit_of, count_by_points}
 use Rattle.pair_colours.proofs.Places.{row_below, column_below, place_below}
 use Rattle.pair_colours.proofs.Writes.{set_other_pair}
 use Rattle.trace_text.specs.declared.step_list.Step.TheVariants.{Tri}
@@ -14,11 +13,8 @@ use Rattle.split_cells.specs.Segments.{IsMembers}
 use Rattle.split_cells.specs.Grids.{grid}
 use Rattle.split_cells.specs.Keys.{IsGathered, IsBlank, key_at}
 use Rattle.split_cells.specs.Sides.{IsRowCounted, is_over_left}
-use Rattle.split_cells.proofs.GatherLemmas.{count_short, some_size}
-
-pub square_le : (m : ℕ) → 0 < m → m ≤ m * m
-square_le zero l = absurd (omega (arith, l))
-square_le (suc m) l = grind arith
+use Rattle.split_cells.proofs.PointCounts.{count_none, count_one_more, count_short, square_le}
+use Rattle.split_cells.proofs.GatherLemmas.{some_size}
 
 -- of the pairs of row x, those before y are counted once more
 pub record IsRowCountedTo (n : ℕ) (class : List ℕ) (t : Triangle) (x z : ℕ) (old : List ℕ) (y : ℕ) (counts : List ℕ) : Type 0 where
@@ -71,39 +67,6 @@ module _ (n : ℕ) (class : List ℕ) (t : Triangle) (x z : ℕ) (old : List ℕ
     row = λ v hv. b.done v (omega (arith, e, hv));
     others = λ u v hu hv ne. b.rest u v hu hv (λ f. absurd (ne f));
   }
-
--- a count with one point more
-pub count_one_more : (p q : ℕ → Bool) (n z0 : ℕ) → z0 < n → ((z : ℕ) → z < n → z ≢ z0 → p z ≡ q z) → p z0 ≡ false → count_by q (points n) ≡ count_by p (points n) + unit_of (q z0)
-count_one_more p q zero z0 l agree none = absurd (omega (arith, l))
-count_one_more p q (suc n) z0 l agree none =
-    ⊎_elim
-    (λ e.
-    let same = count_by_points p q n (λ z h. agree z (omega (arith, h)) (λ f. omega (arith, h, f, e))) in
-    omega (arith, pn, qn, same, ap (λ z. unit_of (q z)) e, ap (λ z. unit_of (p z)) e, ap unit_of none))
-    (λ ne.
-    let again = count_one_more p q n z0 (omega (arith, l, ne)) (λ z h o. agree z (omega (arith, h)) o) none in
-    omega (arith, pn, qn, again, ap unit_of (agree n (omega arith) (λ f. ne (sym f)))))
-    (cases_eq z0 n)
-  where
-    more : (k : ℕ → Bool) → count_by k (points (suc n)) ≡ count_by k (points n) + unit_of (k n)
-    more k =
-        let m : suc n ≡ n + 1 = omega arith in
-        ap (λ w. count_by k (points w)) m ∙ ap (count_by k) (points_more n) ∙ sum_by_push (λ w. unit_of (k w)) (points n) n
-
-    pn : count_by p (points (suc n)) ≡ count_by p (points n) + unit_of (p n)
-    pn = more p
-
-    qn : count_by q (points (suc n)) ≡ count_by q (points n) + unit_of (q n)
-    qn = more q
-
--- where nothing passes
-pub count_none : (p : ℕ → Bool) (n : ℕ) → ((z : ℕ) → z < n → p z ≡ false) → count_by p (points n) ≡ 0
-count_none p zero none = refl
-count_none p (suc n) none =
-    let again = count_none p n (λ z h. none z (omega (arith, h))) in
-    let m : suc n ≡ n + 1 = omega arith in
-    let step : count_by p (points (suc n)) ≡ count_by p (points n) + unit_of (p n) = ap (λ w. count_by p (points w)) m ∙ ap (count_by p) (points_more n) ∙ sum_by_push (λ w. unit_of (p w)) (points n) n in
-    omega (arith, again, step, ap unit_of (none n (omega arith)))
 
 -- the first side is among the first a members of class left
 abbrev pub is_side : ℕ → List ℕ → (ℕ → ℕ) → Triangle → ℕ → ℕ → ℕ → ℕ → Bool

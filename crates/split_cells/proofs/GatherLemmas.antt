@@ -1,12 +1,10 @@
 -- Keys gathered pair by pair.
-use Rattle.std.proofs.Common.{◌≡◌, ◌≢◌, ◌==◌, ◌&&◌, ℕ, ◌+◌, ◌*◌, ◌/◌, ◌%◌, ◌<◌, ◌≤◌, Bool, List, length, get_or, set, count_by, ⊎_elim, sym, ap, subst, ◌∙◌, arith, zero, suc}
+use Rattle.std.proofs.Common.{◌≡◌, ◌≢◌, ◌==◌, ◌&&◌, ℕ, ◌+◌, ◌*◌, ◌/◌, ◌%◌, ◌<◌, ◌≤◌, List, length, get_or, set, count_by, ⊎_elim, sym, ap, subst, ◌∙◌, arith, zero, suc}
 use Rattle.std.proofs.lemmas.Bool.{cases_eq}
 use Rattle.std.proofs.lemmas.List.{length-set, get_or-set_same, get_or-set_other}
-use Rattle.std.proofs.lemmas.List.Sums.{sum_by_push, count_by-le-length}
-use Rattle.std.proofs.lemmas.List.FromFn.{length-range_with_len}
 use Rattle.std.proofs.lemmas.Nat.{div-add-mod', same_from_place}
 use Rattle.pair_colours.specs.Colouring.{points, triangles}
-use Rattle.pair_colours.proofs.Counts.{unit_of, points_more, count_by_points}
+use Rattle.pair_colours.proofs.Counts.{count_by_points}
 use Rattle.pair_colours.proofs.Places.{row_below, column_below, place_below}
 use Rattle.split_cells.specs.Segments.{IsMembers}
 use Rattle.split_cells.specs.Grids.{IsTurned, grid, turned_place}
@@ -75,13 +73,6 @@ module _ {class : List ℕ} {k : ℕ} {at : ℕ → ℕ} {members : List ℕ} (m
 pub some_size : (n p : ℕ) → p < n * n → 0 < n
 some_size zero p l = absurd (omega (arith, l))
 some_size (suc n) p l = omega arith
-
--- a step of a count over the points
-pub count_more : (p : ℕ → Bool) (z count new : ℕ) → count ≡ count_by p (points z) → new ≡ count + unit_of (p z) → new ≡ count_by p (points (z + 1))
-count_more p z count new h e = omega (arith, h, e, ap (count_by p) (points_more z), sum_by_push (λ w. unit_of (p w)) (points z) z)
-
-pub count_short : (p : ℕ → Bool) (z : ℕ) → count_by p (points z) ≤ z
-count_short p z = omega (arith, count_by-le-length p (points z), length-range_with_len 0 z)
 
 -- what stands at a place of the transposed matrix
 pub turned_at : (n : ℕ) (class turned : List ℕ) → IsTurned n class turned → 0 < n → (p : ℕ) → p < n * n → get_or turned p 0 ≡ get_or class (turned_place n p) 0

@@ -1,5 +1,6 @@
 mod SegmentLemmas
 mod TallyLemmas
+mod PointCounts
 mod GatherLemmas
 mod FirstSides
 mod SecondSides
@@ -8,3 +9,8 @@ mod KeyLemmas
 mod PartLemmas
 mod BuildLemmas
 mod CellLemmas
+mod SumCounts
+mod RowPairs
+mod CodeTables
+mod FaultSteps
+mod FellowPairs

@@ -13,8 +13,8 @@ use Rattle.split_cells.specs.Segments.{IsMembers}
 use Rattle.split_cells.specs.Grids.{IsTurned, grid}
 use Rattle.split_cells.specs.Keys.{IsGathered, IsBlank, key_at}
 use Rattle.split_cells.specs.Sides.{IsColumnCounted, is_over_right}
-use Rattle.split_cells.proofs.GatherLemmas.{count_short, some_size}
-use Rattle.split_cells.proofs.FirstSides.{count_one_more, count_none, square_le}
+use Rattle.split_cells.proofs.PointCounts.{count_none, count_one_more, count_short, square_le}
+use Rattle.split_cells.proofs.GatherLemmas.{some_size}
 
 -- of the pairs of column y, those before x are counted once more
 pub record IsColumnCountedTo (n : ℕ) (turned : List ℕ) (t : Triangle) (z y : ℕ) (old : List ℕ) (x : ℕ) (counts : List ℕ) : Type 0 where

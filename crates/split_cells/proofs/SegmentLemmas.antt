@@ -5,7 +5,8 @@ use Rattle.std.proofs.lemmas.Bool.{cases_eq}
 use Rattle.std.proofs.lemmas.List.{length-set, get_or-set_same, get_or-set_other, length-replicate, get_or-replicate}
 use Rattle.std.proofs.lemmas.List.FromFn.{length-range_with_len, get_or-range_with_len}
 use Rattle.split_cells.specs.declared.partings.Parting.{Parting}
-use Rattle.split_cells.specs.Segments.{IsSegmented, IsParting, IsMembers, stands_at}
+use Rattle.split_cells.specs.Grids.{HasMember}
+use Rattle.split_cells.specs.Segments.{IsSegmented, IsParting, IsMembers, class_at, first_of, stands_at}
 
 -- what holds of an entry after a write
 pub one_write : (P : ℕ → Type 0) (xs : List ℕ) (i a k : ℕ) → i < length xs → (k ≡ i → P a) → (k ≢ i → P (get_or xs k 0)) → P (get_or (set xs i a) k 0)
@@ -373,3 +374,14 @@ IsMembers-from s h k named members size entries = record {
         let low = h.low p (omega (arith, l, h.classes)) in
         let high = h.high p (omega (arith, l, h.classes)) in
         (omega (arith, low, ap (λ c. get_or s.start.items c 0) e), omega (arith, high, size, ap (λ c. get_or s.start.items c 0) e, ap (λ c. get_or s.len.items c 0) e))
+
+-- the first member of a class in use
+pub first_member : (s : Parting) → IsParting s → (k : ℕ) → k < s.rank → HasMember s.class.items k → (first_of s k < length s.order.items) × (class_at s (first_of s k) ≡ k)
+first_member s h k named m =
+    let inside : m.number < length s.order.items = omega (arith, m.inside, h.classes) in
+    let low = h.low m.number inside in
+    let high = h.high m.number inside in
+    let start = ap (λ c. get_or s.start.items c 0) m.member in
+    let size = ap (λ c. get_or s.len.items c 0) m.member in
+    let some : get_or s.start.items k 0 < get_or s.start.items k 0 + get_or s.len.items k 0 = omega (arith, low, high, start, size) in
+    (h.order_in (get_or s.start.items k 0) (omega (arith, some, h.ends k named)), h.members k named (get_or s.start.items k 0) (omega arith) some)

@@ -8,3 +8,7 @@ pub mod Parts
 pub mod Sorted
 pub mod Kept
 pub mod Faults
+pub mod Codes
+pub mod CodeCounts
+pub mod FirstPairs
+pub mod Fellows

@@ -36,6 +36,10 @@ class_at s p = slice_index s.class.items p
 abbrev pub StandsBehind : Parting → ℕ → ℕ → Type 0
 StandsBehind s k new = slice_index s.start.items new ≡ slice_index s.start.items k + slice_index s.len.items k
 
+-- the first member of class k
+abbrev pub first_of : Parting → ℕ → ℕ
+first_of s k = slice_index s.order.items (slice_index s.start.items k)
+
 -- where number p stands among the members of class k
 abbrev pub stands_at : Parting → ℕ → ℕ → ℕ
 stands_at s k p = slice_index s.place.items p - slice_index s.start.items k

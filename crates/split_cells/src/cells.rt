@@ -1,14 +1,16 @@
 //! The pairs of points, parted into numbered classes.
 
-ghost use Rattle.std.specs.Prelude.{◌≡◌, ℕ, ◌*◌, ◌<◌, ◌≤◌, ◌==◌, ◌↔◌, IsTrue, IfOk, count_by};
+ghost use Rattle.std.specs.Prelude.{◌≡◌, ℕ, ◌*◌, ◌<◌, ◌≤◌, ◌==◌, ◌↔◌, IsTrue, IfOk, IfSome, IfNone, count_by};
 ghost use Rattle.std.specs.Bool.{OnFalse};
 ghost use Rattle.pair_colours.specs.Colouring.{colour_at};
+ghost use Rattle.pair_colours.specs.Closure.{Coherent};
 ghost use Rattle.pair_colours.specs.Naming.{named_of, rank_of};
 ghost use Rattle.trace_text.specs.Partition.{IsPartition};
-ghost use Rattle.trace_text.specs.Split.{HasParts, NamesClasses, split_of};
+ghost use Rattle.trace_text.specs.Split.{HasParts, IsAllowed, NamesClasses, split_of};
 
 use crate::building::{parted, transposed};
 use crate::classed_pairs::ClassedPairs;
+use crate::faults::fault;
 use crate::gathering::gather;
 use crate::sizes::Size;
 use crate::splitting::part;
@@ -116,5 +118,14 @@ impl Cells {
         let split = part(&mut self.pairs, &self.tally, class);
         self.tally.clear();
         split
+    }
+
+    /// A step that is not idle; none where the partition is coherent.
+    pub fn first_fault(&self, alloc: Global) -> Result<Option<Step>, NoMemory>
+        ensures fault { IfOk result (λ found. IfSome found (λ step. IsAllowed self.now step)) }
+        ensures coherent { IfOk result (λ found. IfNone found (Coherent self.now)) }
+        ensures within { IsPartition self.now }
+    {
+        fault(alloc, &self.pairs)
     }
 }

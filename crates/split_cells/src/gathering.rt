@@ -17,7 +17,11 @@ pub(crate) fn diagonal_key(size: &Size, p: u32) -> u32
     requires { p < size.now * size.now }
     ensures { result ≡ (if p / size.now == p % size.now then 0 else 1) }
 {
-    if size.first(p) == size.second(p) { 0 } else { 1 }
+    if size.first(p) == size.second(p) {
+        0
+    } else {
+        1
+    }
 }
 
 // Key 1 for the pairs of class k off the diagonal.

@@ -3,7 +3,7 @@
 //!
 //! * `cells`: `Cells`, a partition that carries out steps.
 //! * `faults`: whether a partition is coherent, or else by what it can be split.
-//! * `codes`: the triangles on two pairs, compared by short numbers of colours.
+//! * `codes`: short numbers of classes; `code_counts`: how often their sums come.
 //! * `splitting`: the parts of a class, by the keys of its pairs.
 //! * `gathering`: those keys; `triangle_counts`: those of triangles.
 //! * `building`: classes from the class of each pair.
@@ -18,6 +18,9 @@
 mod building;
 mod cells;
 mod classed_pairs;
+mod code_counts;
+mod codes;
+mod faults;
 mod gathering;
 mod partings;
 mod sizes;
@@ -27,3 +30,5 @@ mod triangle_counts;
 
 pub use cells::Cells;
 
+#[cfg(test)]
+mod tests;

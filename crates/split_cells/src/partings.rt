@@ -1,7 +1,8 @@
 //! Numbered classes, each a segment of one list.
 
 ghost use Rattle.std.specs.Prelude.{◌≡◌, ◌≢◌, ℕ, ◌+◌, ◌-◌, ◌*◌, ◌^◌, ◌<◌, ◌≤◌, IfOk, [], length, replicate, slice_index, slice_set};
-ghost use Rattle.split_cells.specs.Segments.{IsMembers, IsParting, StandsBehind, bound_of, class_at, stands_at};
+ghost use Rattle.split_cells.specs.Segments.{IsMembers, IsParting, StandsBehind, bound_of, class_at, first_of, stands_at};
+ghost use Rattle.split_cells.specs.Grids.{HasMember};
 
 use pair_colours::NoMemory;
 use std::alloc::Global;
@@ -65,6 +66,18 @@ impl Parting {
         let from = self.start[k as usize] as usize;
         let len = self.len[k as usize] as usize;
         &self.order[from..from + len]
+    }
+
+    // The first member of class k.
+    pub(crate) fn first(&self, k: u32) -> u32
+        requires parting { IsParting self.now }
+        requires class { k < self.now.rank }
+        requires member { HasMember self.now.class.items k }
+        ensures first { result ≡ first_of self.now k }
+        ensures inside { result < bound_of self.now }
+        ensures class { class_at self.now result ≡ k }
+    {
+        self.order[self.start[k as usize] as usize]
     }
 
     // A new class without members, right behind class k.

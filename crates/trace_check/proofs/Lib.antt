@@ -1,0 +1,4 @@
+mod ReadOut
+mod Steps
+mod Coherence
+mod Judged

@@ -3,7 +3,7 @@
 ghost use Rattle.std.specs.Prelude.{◌≡◌, ℕ, ◌<◌, IfOk};
 ghost use Rattle.pair_colours.specs.Colouring.{IsColouring, colour_at};
 ghost use Rattle.pair_colours.specs.Naming.{named_of};
-ghost use Rattle.trace_text.specs.Partition.{meet_of};
+ghost use Rattle.trace_text.specs.Partition.{IsPartition, meet_of};
 ghost use Rattle.trace_check.specs.Rows.{IsRowCopied};
 
 use pair_colours::{Colouring, NoMemory};
@@ -21,11 +21,17 @@ fn copy_row(colouring: &mut Colouring, cells: &Cells, x: u32)
     }
 }
 
-// The partition as a colouring.
-pub(crate) fn read_out(alloc: Global, cells: &Cells) -> Result<Colouring, NoMemory>
-    ensures { IfOk result (λ partition. partition ≡ cells.now) }
+// The partition as a colouring, written over a copy of one of as many points.
+pub(crate) fn read_out(
+    alloc: Global,
+    cells: &Cells,
+    other: &Colouring,
+) -> Result<Colouring, NoMemory>
+    requires { other.now.size ≡ cells.now.size }
+    ensures classes { IfOk result (λ partition. partition ≡ cells.now) }
+    ensures within { IfOk result (λ _. IsPartition cells.now) }
 {
-    let mut partition = Colouring::new(alloc, cells.size(), 0)?;
+    let mut partition = other.copy(alloc)?;
     for x in 0..cells.size() {
         copy_row(&mut partition, cells, x);
     }
@@ -51,7 +57,7 @@ pub(crate) fn later_start(
     requires sizes { colours.now.size ≡ partition.now.size }
     ensures { IfOk result (λ cells. cells ≡ meet_of colours.now partition.now) }
 {
-    let partition = read_out(alloc, partition)?;
+    let partition = read_out(alloc, partition, colours)?;
     let meet = colours.meet(alloc, &partition)?;
     Cells::of(alloc, &meet)
 }

@@ -26,10 +26,12 @@ fn make(cells: &mut Cells, step: Step) -> Result<(), CheckWord>
     ensures split { OnOk result (IsSplit cells.old step cells.new) }
     ensures refused { IfErr result (λ what. (line : ℕ) → IsFirstFailing (step_conditions line cells.old (step ∷ [])) line what) }
 {
-    if !cells.names(step) {
+    let named = cells.names(step);
+    if !named {
         return Err(CheckWord::NoSuchClass);
     }
-    if !cells.split(step) {
+    let split = cells.split(step);
+    if !split {
         return Err(CheckWord::IdleStep);
     }
     Ok(())
@@ -42,11 +44,14 @@ fn follow(cells: &mut Cells, steps: &Steps, line: u32) -> Result<(), BadLine>
     ensures refused { IfErr result (λ bad. IsFirstFailing (step_conditions line cells.old steps.now) bad.line bad.what) }
 {
     for i in 0..steps.len() {
-        if let Err(what) = make(cells, steps.at(i)) {
-            return Err(BadLine {
-                line: line + i,
-                what,
-            });
+        match make(cells, steps.at(i)) {
+            Ok(()) => {}
+            Err(what) => {
+                return Err(BadLine {
+                    line: line + i,
+                    what,
+                });
+            }
         }
     }
     Ok(())
@@ -74,7 +79,8 @@ fn start(
     match before {
         None => Ok(Some(first_start(alloc, colours)?)),
         Some(end) => {
-            if !colours.refines(alloc, end.colours)? {
+            let refining = colours.refines(alloc, end.colours)?;
+            if !refining {
                 return Ok(None);
             }
             Ok(Some(later_start(alloc, colours, &end.cells)?))

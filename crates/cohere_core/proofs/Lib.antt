@@ -2,3 +2,4 @@ mod Runs
 mod OneOutput
 mod Halted
 mod RunOutputs
+mod CheckOutputs

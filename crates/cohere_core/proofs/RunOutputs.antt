@@ -8,7 +8,7 @@ use Rattle.pair_colours.specs.Colouring.{PairColouring, IsRawColouring}
 use Rattle.relation_text.specs.Relation.{IsRelationText}
 use Rattle.relation_text.proofs.LawProofs.{reading_is_raw}
 use Rattle.script_text.specs.declared.acts.Line.{Line}
-use Rattle.cohere_inputs.specs.declared.faults.FileFault.TheVariants.{Missing, TooLong, Relation, Script, NotYet}
+use Rattle.cohere_inputs.specs.declared.faults.FileFault.TheVariants.{Missing, TooLong, Relation, Script, NotYet, Trace}
 use Rattle.cohere_inputs.specs.declared.faults.Unread.{Unread}
 use Rattle.cohere_inputs.specs.declared.faults.Unread.TheVariants.{Bad, StoreFailed, NoMemory}
 use Rattle.cohere_inputs.specs.Task.{Run, RunWords}
@@ -63,6 +63,7 @@ halted_output (Some files) run (Bad TooLong) w = Keeps-refl w
 halted_output (Some files) run (Bad (Relation what at)) w = Keeps-refl w
 halted_output (Some files) run (Bad (Script at what)) w = Keeps-refl w
 halted_output (Some files) run (Bad (NotYet at)) w = Keeps-refl w
+halted_output (Some files) run (Bad (Trace at what)) w = Keeps-refl w
 halted_output (Some files) run StoreFailed w = Keeps-refl w
 halted_output (Some files) run NoMemory w = nothing_yet files run w
 

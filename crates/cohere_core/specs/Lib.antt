@@ -3,6 +3,7 @@ pub mod Answer
 pub mod Move
 pub mod Output
 pub mod RunForm
+pub mod CheckForm
 pub mod Run
 pub mod Law
 pub mod Halt

@@ -15,7 +15,7 @@ use scheme_io::{Sink, SinkFault, put_all};
 use script_text::Line;
 use std::alloc::Global;
 
-/// Why the answers of a script were not written whole.
+/// Why the answers were not written whole.
 #[derive(Clone, Copy, Debug, PartialEq, Eq)]
 pub enum SessionFault {
     /// The sink failed.

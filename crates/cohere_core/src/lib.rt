@@ -2,18 +2,20 @@
 //!
 //! * `running`: `run`, with the headline and the causes of its statuses (`status`).
 //! * `run_form`: the form of words that answers a script over a relation.
+//! * `check_form`: the form of words that judges a trace.
 //! * `halting`: the status where a file was not read.
 //! * `answering`: `session`, the answers of a script line by line; `answers`: one of them, and
 //!   `queries`: one that changes nothing.
 //! * `laws`: every script has an output over every relation, and only one where it asks for no trace.
 //!
 //! The definitions stand in `specs/`: `Run` says what holds after each status, with a case for each
-//! form of words (`RunForm`), and `Output` and `Answer` what is written. The words, the files and
-//! the lines on standard error are those of `cohere_inputs`.
+//! form of words (`RunForm`, `CheckForm`), and `Output` and `Answer` what is written. The words, the
+//! files and the lines on standard error are those of `cohere_inputs`.
 #![tactic(auto)]
 
 mod answering;
 mod answers;
+mod check_form;
 mod halting;
 pub mod laws;
 mod queries;

@@ -9,6 +9,7 @@ ghost use Rattle.cohere_inputs.specs.Words.{texts, task_of, IfAsked};
 ghost use Rattle.cohere_core.specs.Run.{MayAnswer, OutputAfter, IfNothingIsLoaded, IsQuiet, LineAfter, ErrorLineAfter, IsStatusWithoutFaults, FirstBadIsMissing, FirstBadIsText, IsBeforeOutput};
 
 use crate::Status;
+use crate::check_form::answer_check;
 use crate::run_form::answer_run;
 use cohere_inputs::{Task, say_usage, task_of};
 use scheme_io::{Sink, Store};
@@ -18,6 +19,11 @@ use std::alloc::Global;
 ///
 /// The answers go to `out`. After a status that is no `Done`, `CheckedNo` or `SinkFailed`, one line
 /// that says why goes to `err`; a failure of `err` changes no status.
+///
+/// After `check`, `Done` says that the file is a trace of a claim that is accepted, and so that the
+/// claimed colouring is the closure of the colours of its last stage (`trace_text::laws::l3`);
+/// `CheckedNo` that it is a trace of a claim that is not, and that the line of its first bad line was
+/// written. The claim is judged by `trace_check`, which closes nothing.
 pub fn run<S: Store, O: Sink, E: Sink>(
     alloc: Global,
     words: &[String],
@@ -88,5 +94,6 @@ fn carry_out<S: Store, O: Sink, E: Sink>(
 {
     match task {
         Task::Run(words) => answer_run(alloc, words, store, out, err),
+        Task::Check(trace) => answer_check(alloc, trace, store, out, err),
     }
 }

@@ -5,9 +5,9 @@ ghost use Rattle.std.specs.Prelude.{◌≡◌};
 /// What `run` answers.
 #[derive(Clone, Copy, Debug, PartialEq, Eq)]
 pub enum Status {
-    /// The answers were written whole.
+    /// The answers were written whole; where a trace was checked, it is accepted.
     Done,
-    /// A trace was checked and not accepted.
+    /// A trace was checked and is not accepted; its line was written whole.
     CheckedNo,
     /// The words fit no form.
     Usage,

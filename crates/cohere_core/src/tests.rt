@@ -7,6 +7,7 @@ use std::process::Abort;
 use std::test::Fail;
 
 mod answered;
+mod checks;
 mod failures;
 mod limits;
 mod refused;

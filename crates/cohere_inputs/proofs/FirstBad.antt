@@ -16,15 +16,20 @@ use Rattle.script_text.specs.LineFaults.{script_fault}
 use Rattle.script_text.specs.declared.acts.Line.{Line}
 use Rattle.script_text.specs.declared.faults.ScriptWord.{ScriptWord}
 use Rattle.script_text.proofs.LawProofs.{script_has_no_fault, script_is_unique, script_or_fault}
+use Rattle.trace_text.specs.TraceFault.{trace_fault}
+use Rattle.trace_text.specs.ClaimTexts.{IsTraceText}
+use Rattle.trace_text.specs.declared.stage_list.Claim.{Claim}
+use Rattle.trace_text.specs.declared.trace_faults.TraceWord.{TraceWord}
+use Rattle.trace_text.proofs.LawProofs as traces
 use Rattle.cohere_inputs.specs.declared.faults.FileFault.{FileFault}
-use Rattle.cohere_inputs.specs.declared.faults.FileFault.TheVariants.{Missing, TooLong, Relation, Script, NotYet}
-use Rattle.cohere_inputs.specs.Task.{Run}
+use Rattle.cohere_inputs.specs.declared.faults.FileFault.TheVariants.{Missing, TooLong, Relation, Script, NotYet, Trace}
+use Rattle.cohere_inputs.specs.Task.{Task, Run, Check}
 use Rattle.cohere_inputs.specs.Acts.{first_unbuilt}
 use Rattle.cohere_inputs.specs.Kind.{Kind, limit_of}
 use Rattle.cohere_inputs.specs.Kind as kinds
 use Rattle.cohere_inputs.specs.Needs.{Need, named_files}
 use Rattle.cohere_inputs.specs.Texts.{IsText, IsTextFault}
-use Rattle.cohere_inputs.specs.Bad.{HoldsWithin, IsGood, IsTooLong, IsFault, IsReachedIn}
+use Rattle.cohere_inputs.specs.Bad.{HoldsWithin, IsGood, IsTooLong, IsFault, IsReachedIn, IsFirstBad, NoneIsBad}
 use Rattle.cohere_inputs.specs.Law.{NoneOrFirstBad, NoneIsFirst, FirstBadIsUnique}
 use Rattle.cohere_inputs.proofs.BuiltActs.{built_from_none, none_from_built}
 
@@ -37,6 +42,7 @@ text_has_no_fault kinds.Script bytes (Script line what) good bad = none-some (li
 text_has_no_fault kinds.Script bytes (NotYet line) good bad =
     let same = script_is_unique bytes good.0 bad.lines good.1.reads bad.reads in
     none-some line (sym (none_from_built good.0 good.1.built) ∙ ap first_unbuilt same ∙ bad.first)
+text_has_no_fault kinds.Trace bytes (Trace line what) good bad = none-some (line, what) (sym (traces.reading_has_no_fault bytes good.0 good.1) ∙ bad)
 text_has_no_fault _ bytes _ good bad = absurd bad
 
 -- and no text has two
@@ -54,6 +60,10 @@ text_fault_is_unique kinds.Script bytes (NotYet line) (Script number word) a b =
 text_fault_is_unique kinds.Script bytes (NotYet line) (NotYet number) a b =
     ap NotYet (same_Some line number (sym a.first ∙ ap first_unbuilt (script_is_unique bytes a.lines b.lines a.reads b.reads) ∙ b.first))
 text_fault_is_unique kinds.Script bytes (NotYet line) _ a b = absurd b
+text_fault_is_unique kinds.Trace bytes (Trace line what) (Trace number word) a b =
+    let parts = some_pair_parts line number what word (sym a ∙ b) in
+    ap (λ n. Trace n what) parts.0 ∙ ap (Trace number) parts.1
+text_fault_is_unique kinds.Trace bytes (Trace line what) _ a b = absurd b
 text_fault_is_unique _ bytes _ _ a b = absurd a
 
 -- a text is what it must be, or has a fault
@@ -72,16 +82,24 @@ script_fault_of : (bytes : List ℕ) (o : Option (ℕ × ScriptWord)) → script
 script_fault_of bytes None e some = absurd cc
 script_fault_of bytes (Some (line, what)) e some = (Script line what, e)
 
+trace_or_fault : (bytes : List ℕ) (o : Option (ℕ × TraceWord)) → trace_fault bytes ≡ o
+    → MatchOption o ((claim : Claim) × IsTraceText bytes claim) (λ _. (claim : Claim) → ¬ IsTraceText bytes claim)
+    → IsText kinds.Trace bytes ⊎ ((fault : FileFault) × IsTextFault kinds.Trace bytes fault)
+trace_or_fault bytes None e read = inl read
+trace_or_fault bytes (Some (line, what)) e read = inr (Trace line what, e)
+
 -- a line of a relation counts from 1
 abbrev IsCounted : Kind → Type 0
 IsCounted (kinds.Relation line) = 1 ≤ line
 IsCounted kinds.Script = ⊤
+IsCounted kinds.Trace = ⊤
 
 text_or_fault : (kind : Kind) (bytes : List ℕ) → IsCounted kind → IsText kind bytes ⊎ ((fault : FileFault) × IsTextFault kind bytes fault)
 text_or_fault (kinds.Relation line) bytes counted = relation_or_fault bytes line (relation_fault bytes line) refl (reads_or_fails bytes line counted)
 text_or_fault kinds.Script bytes counted =
     ⊎_elim (λ (read : (lines : List Line) × IsScript bytes lines). built_or_not bytes read.0 read.1 (first_unbuilt read.0) refl)
     (λ some. inr (script_fault_of bytes (script_fault bytes) refl some)) (script_or_fault bytes)
+text_or_fault kinds.Trace bytes counted = trace_or_fault bytes (trace_fault bytes) refl (traces.trace_reads_or_fails bytes)
 
 -- ---- one file
 
@@ -93,10 +111,12 @@ one_text files name a b e f = same_Some a b (sym e ∙ f)
 no_text_missing : (kind : Kind) (bytes : List ℕ) → IsTextFault kind bytes Missing → ⊥
 no_text_missing (kinds.Relation line) bytes bad = bad
 no_text_missing kinds.Script bytes bad = bad
+no_text_missing kinds.Trace bytes bad = bad
 
 no_text_too_long : (kind : Kind) (bytes : List ℕ) → IsTextFault kind bytes TooLong → ⊥
 no_text_too_long (kinds.Relation line) bytes bad = bad
 no_text_too_long kinds.Script bytes bad = bad
+no_text_too_long kinds.Trace bytes bad = bad
 
 -- a fault of a text is that of its file
 text_fault-file : (files : Files) (need : Need) (bytes : List ℕ) (fault : FileFault) → HoldsWithin files need bytes → IsTextFault need.kind bytes fault → IsFault files need fault
@@ -177,12 +197,16 @@ same_first_in files (first ∷ rest) need other fault another (inr a) bad (inr b
 
 -- ---- a task
 
-pub none_or_first_bad : NoneOrFirstBad
-none_or_first_bad files (Run run) asked =
-    let task = Run run in
+of_named : (files : Files) (task : Task) → AllByRecursion (λ need. IsCounted need.kind) (named_files task)
+    → NoneIsBad files task ⊎ ((need : Need) × (fault : FileFault) × IsFirstBad files task need fault)
+of_named files task counted =
     ⊎_elim (λ good. inl (record { needs = named_files task; loaded = refl; good = good }))
     (λ (bad : HasFirstBad files (named_files task)). inr (bad.0, bad.1, (record { needs = named_files task; loaded = refl; reached = bad.2 }, bad.3)))
-    (none_or_first_in files (named_files task) (asked, (tt, tt)))
+    (none_or_first_in files (named_files task) counted)
+
+pub none_or_first_bad : NoneOrFirstBad
+none_or_first_bad files (Run run) asked = of_named files (Run run) (asked, (tt, tt))
+none_or_first_bad files (Check trace) asked = of_named files (Check trace) (tt, tt)
 
 pub none_is_first : NoneIsFirst
 none_is_first files task need fault good bad =

@@ -6,11 +6,13 @@ use Rattle.scheme_io.specs.Files.{Files}
 use Rattle.pair_colours.specs.Colouring.{PairColouring}
 use Rattle.relation_text.specs.Relation.{IsRelationText}
 use Rattle.script_text.specs.declared.acts.Line.{Line}
+use Rattle.trace_text.specs.declared.stage_list.Claim.{Claim}
+use Rattle.trace_text.specs.ClaimTexts.{IsTraceText}
 use Rattle.cohere_inputs.specs.declared.faults.FileFault.{FileFault}
 use Rattle.cohere_inputs.specs.declared.faults.FileFault.TheVariants.{Missing, TooLong}
 use Rattle.cohere_inputs.specs.Task.{Task}
 use Rattle.cohere_inputs.specs.Kind.{limit_of}
-use Rattle.cohere_inputs.specs.Needs.{Need, AreLoaded, relation_need, script_need}
+use Rattle.cohere_inputs.specs.Needs.{Need, AreLoaded, relation_need, script_need, trace_need}
 use Rattle.cohere_inputs.specs.Texts.{IsText, IsTextFault, IsBuiltScript}
 
 -- the file is there, and these are its bytes, within the limit of its kind
@@ -66,3 +68,9 @@ pub record IsScriptFile (files : Files) (name : List ℕ) (lines : List Line) : 
   pub bytes : List ℕ
   pub file : HoldsWithin files (script_need name) bytes
   pub reads : IsBuiltScript bytes lines
+
+-- the file is a trace of this claim
+pub record IsTraceFile (files : Files) (name : List ℕ) (claim : Claim) : Type 0 where
+  pub bytes : List ℕ
+  pub file : HoldsWithin files (trace_need name) bytes
+  pub reads : IsTraceText bytes claim

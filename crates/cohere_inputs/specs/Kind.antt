@@ -2,6 +2,7 @@
 use Rattle.std.specs.Prelude.{ℕ}
 use Rattle.relation_text.specs.declared.reading.TheConstants.{MOST_RELATION}
 use Rattle.script_text.specs.declared.limits.TheConstants.{MOST_SCRIPT}
+use Rattle.trace_text.specs.declared.limits.TheConstants.{MOST_TRACE}
 
 -- each kind of text has its case
 pub data Kind : Type 0 where
@@ -9,8 +10,11 @@ pub data Kind : Type 0 where
   Relation : ℕ → Kind
   -- a script of acts that are answered
   Script : Kind
+  -- a trace
+  Trace : Kind
 
 -- the most bytes of such a file
 abbrev pub limit_of : Kind → ℕ
 limit_of (Relation line) = MOST_RELATION
 limit_of Script = MOST_SCRIPT
+limit_of Trace = MOST_TRACE

@@ -1,5 +1,6 @@
 pub mod Task
 pub mod RunForm
+pub mod CheckForm
 pub mod Words
 pub mod Asked
 pub mod Acts

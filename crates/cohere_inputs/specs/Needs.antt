@@ -1,7 +1,7 @@
 -- The files that are loaded for a task.
 use Rattle.std.specs.Prelude.{◌≡◌, ℕ, List, [], ◌∷◌}
 use Rattle.scheme_io.specs.Files.{Files}
-use Rattle.cohere_inputs.specs.Task.{Task, Run}
+use Rattle.cohere_inputs.specs.Task.{Task, Run, Check}
 use Rattle.cohere_inputs.specs.Kind.{Kind}
 use Rattle.cohere_inputs.specs.Kind as kinds
 
@@ -10,16 +10,20 @@ pub record Need : Type 0 where
   pub name : List ℕ
   pub kind : Kind
 
--- the relation at a line of this file, and the script in this file
+-- the relation at a line of this file, the script in this file, and the trace in this file
 abbrev pub relation_need : List ℕ → ℕ → Need
 relation_need name line = record { name = name; kind = kinds.Relation line }
 
 abbrev pub script_need : List ℕ → Need
 script_need name = record { name = name; kind = kinds.Script }
 
+abbrev pub trace_need : List ℕ → Need
+trace_need name = record { name = name; kind = kinds.Trace }
+
 -- the files that the words name, in the order in which they are loaded
 abbrev pub named_files : Task → List Need
 named_files (Run run) = relation_need run.relation run.line ∷ script_need run.script ∷ []
+named_files (Check trace) = trace_need trace ∷ []
 
 -- the files that are loaded for the task, in order
 abbrev pub AreLoaded : Files → Task → List Need → Type 0

@@ -1,5 +1,5 @@
 -- What the words of the program ask for.
-use Rattle.std.specs.Prelude.{ℕ, ◌≤◌, List}
+use Rattle.std.specs.Prelude.{ℕ, ◌≤◌, List, ⊤}
 
 -- a run: the names of the files of the relation and of the script, and the line of its file on which the relation begins
 pub record RunWords : Type 0 where
@@ -11,7 +11,10 @@ pub record RunWords : Type 0 where
 pub data Task : Type 0 where
   -- answers a script over a relation
   Run : RunWords → Task
+  -- judges the trace in the file of this name
+  Check : List ℕ → Task
 
 -- what is known of a task that was asked for
 abbrev pub IsAsked : Task → Type 0
 IsAsked (Run run) = 1 ≤ run.line
+IsAsked (Check trace) = ⊤

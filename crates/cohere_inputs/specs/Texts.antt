@@ -6,8 +6,11 @@ use Rattle.relation_text.specs.Faults.{relation_fault}
 use Rattle.script_text.specs.Script.{IsScript}
 use Rattle.script_text.specs.LineFaults.{script_fault}
 use Rattle.script_text.specs.declared.acts.Line.{Line}
+use Rattle.trace_text.specs.declared.stage_list.Claim.{Claim}
+use Rattle.trace_text.specs.ClaimTexts.{IsTraceText}
+use Rattle.trace_text.specs.TraceFault.{trace_fault}
 use Rattle.cohere_inputs.specs.declared.faults.FileFault.{FileFault}
-use Rattle.cohere_inputs.specs.declared.faults.FileFault.TheVariants.{Missing, TooLong, Relation, Script, NotYet}
+use Rattle.cohere_inputs.specs.declared.faults.FileFault.TheVariants.{Missing, TooLong, Relation, Script, NotYet, Trace}
 use Rattle.cohere_inputs.specs.Acts.{AreBuilt, first_unbuilt}
 use Rattle.cohere_inputs.specs.Kind.{Kind}
 use Rattle.cohere_inputs.specs.Kind as kinds
@@ -21,6 +24,7 @@ pub record IsBuiltScript (text : List ℕ) (lines : List Line) : Type 0 where
 abbrev pub IsText : Kind → List ℕ → Type 0
 IsText (kinds.Relation line) bytes = (C : PairColouring) × IsRelationText bytes line C
 IsText kinds.Script bytes = (lines : List Line) × IsBuiltScript bytes lines
+IsText kinds.Trace bytes = (claim : Claim) × IsTraceText bytes claim
 
 -- the text is a script, and the act of this line is the first that is not answered yet
 pub record IsUnbuiltScript (text : List ℕ) (line : ℕ) : Type 0 where
@@ -33,6 +37,7 @@ abbrev pub IsTextFault : Kind → List ℕ → FileFault → Type 0
 IsTextFault (kinds.Relation line) bytes (Relation what at) = relation_fault bytes line ≡ Some (what, at)
 IsTextFault kinds.Script bytes (Script line what) = script_fault bytes ≡ Some (line, what)
 IsTextFault kinds.Script bytes (NotYet line) = IsUnbuiltScript bytes line
+IsTextFault kinds.Trace bytes (Trace line what) = trace_fault bytes ≡ Some (line, what)
 IsTextFault _ _ _ = ⊥
 
 -- a file of this kind can be bad for such a reason
@@ -42,4 +47,5 @@ CanBe _ TooLong = ⊤
 CanBe (kinds.Relation line) (Relation what at) = ⊤
 CanBe kinds.Script (Script line what) = ⊤
 CanBe kinds.Script (NotYet line) = ⊤
+CanBe kinds.Trace (Trace line what) = ⊤
 CanBe _ _ = ⊥

@@ -8,7 +8,9 @@ use Rattle.relation_text.specs.declared.faults.RelationFault.TheVariants.{Text}
 use Rattle.relation_text.specs.declared.faults.RelationFault.TheVariants as readings
 use Rattle.script_text.specs.declared.faults.ScriptFault.{ScriptFault}
 use Rattle.script_text.specs.declared.faults.ScriptFault.TheVariants as scripts
-use Rattle.cohere_inputs.specs.declared.faults.FileFault.TheVariants.{Missing, TooLong, Relation, Script}
+use Rattle.trace_text.specs.declared.trace_faults.TraceFault.{TraceFault}
+use Rattle.trace_text.specs.declared.trace_faults.TraceFault.TheVariants as traces
+use Rattle.cohere_inputs.specs.declared.faults.FileFault.TheVariants.{Missing, TooLong, Relation, Script, Trace}
 use Rattle.cohere_inputs.specs.declared.faults.Unread.{Unread}
 use Rattle.cohere_inputs.specs.declared.faults.Unread.TheVariants.{Bad, StoreFailed, NoMemory}
 use Rattle.cohere_inputs.specs.Task.{Task}
@@ -33,6 +35,11 @@ unread_relation readings.NoMemory = NoMemory
 abbrev pub unread_script : ScriptFault → Unread
 unread_script (scripts.Text line what) = Bad (Script line what)
 unread_script scripts.NoMemory = NoMemory
+
+-- what a fault of reading says of a trace
+abbrev pub unread_trace : TraceFault → Unread
+unread_trace (traces.Text line what) = Bad (Trace line what)
+unread_trace traces.NoMemory = NoMemory
 
 -- why a file was not read, where rose says that the count of the store's faults rose: where the files are told, it is bad for this reason,
 -- and only where they are told is it not there; or the count rose; or memory is wanting

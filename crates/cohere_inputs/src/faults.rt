@@ -3,6 +3,7 @@
 use relation_text::{RelationFault, RelationWord};
 use scheme_io::LoadFault;
 use script_text::{ScriptFault, ScriptWord};
+use trace_text::{TraceFault, TraceWord};
 
 /// Why a file is bad.
 #[derive(Clone, Copy, Debug, PartialEq, Eq)]
@@ -17,6 +18,8 @@ pub enum FileFault {
     Script { line: u32, what: ScriptWord },
     /// It is a script, and the act of this line is not answered yet.
     NotYet { line: u32 },
+    /// Its text is no trace: what was expected on this line, counted from 1.
+    Trace { line: u32, what: TraceWord },
 }
 
 /// Why a file was not read.
@@ -79,6 +82,20 @@ impl From<ScriptFault> for Unread {
         match fault {
             ScriptFault::Text { line, what } => Unread::Bad(FileFault::Script { line, what }),
             ScriptFault::NoMemory => Unread::NoMemory,
+        }
+    }
+}
+
+impl From<TraceFault> for Unread {
+    ghost use Rattle.std.specs.Prelude.{◌≡◌};
+    ghost use Rattle.cohere_inputs.specs.Unread.{unread_trace};
+
+    ghost from_gives = { λ fault why. why ≡ unread_trace fault };
+
+    fn from(fault: TraceFault) -> Unread {
+        match fault {
+            TraceFault::Text { line, what } => Unread::Bad(FileFault::Trace { line, what }),
+            TraceFault::NoMemory => Unread::NoMemory,
         }
     }
 }

@@ -1,12 +1,13 @@
-//! A file that holds a relation or a script.
+//! A file that holds a relation, a script or a trace.
 
-ghost use Rattle.std.specs.Prelude.{◌≡◌, ◌≤◌, IfOk, IfErr, IfSome};
+ghost use Rattle.std.specs.Prelude.{◌≡◌, ◌^◌, ◌<◌, ◌≤◌, length, IfOk, IfErr, IfSome};
 ghost use Rattle.scheme_io.specs.Count.{Rose};
 ghost use Rattle.pair_colours.specs.Colouring.{IsRawColouring};
+ghost use Rattle.trace_text.specs.BadLines.{line_count};
 ghost use Rattle.cohere_inputs.specs.Acts.{is_built, AreBuilt, first_unbuilt};
-ghost use Rattle.cohere_inputs.specs.Bad.{IsRelationFile, IsScriptFile};
+ghost use Rattle.cohere_inputs.specs.Bad.{IsRelationFile, IsScriptFile, IsTraceFile};
 ghost use Rattle.cohere_inputs.specs.Kind as kinds;
-ghost use Rattle.cohere_inputs.specs.Needs.{relation_need, script_need};
+ghost use Rattle.cohere_inputs.specs.Needs.{relation_need, script_need, trace_need};
 ghost use Rattle.cohere_inputs.specs.Unread.{IsCause, IsUnreadAs};
 
 use crate::faults::{FileFault, Unread};
@@ -15,6 +16,7 @@ use relation_text::{MOST_RELATION, read_relation};
 use scheme_io::{Store, load};
 use script_text::{Act, Line, MOST_SCRIPT, read_script};
 use std::alloc::Global;
+use trace_text::{Claim, MOST_TRACE, read_trace};
 
 /// Loads the file of a relation, and reads it at a line.
 pub(crate) fn relation_in<S: Store>(
@@ -89,4 +91,19 @@ pub(crate) fn script_in<S: Store>(
         Some(line) => Err(Unread::Bad(FileFault::NotYet { line })),
         None => Ok(lines),
     }
+}
+
+/// Loads the file of a trace, and reads it.
+pub(crate) fn claim_in<S: Store>(alloc: Global, store: &mut S, name: &str) -> Result<Claim, Unread>
+    ensures same_files { S.files store.new ≡ S.files store.old }
+    ensures later { S.faults store.old ≤ S.faults store.new }
+    ensures has_stage { IfOk result (λ claim. 1 ≤ length claim.chain) }
+    ensures lines { IfOk result (λ claim. line_count claim < 2 ^ 32) }
+    ensures read { IfOk result (λ claim. IfSome (S.files store.old) (λ files. IsTraceFile files name.now claim)) }
+    ensures cause { IfErr result (λ why.
+        IsCause (S.files store.old) (trace_need name.now) why (Rose (S.faults store.old) (S.faults store.new))) }
+    ensures form { IfErr result (IsUnreadAs kinds.Trace) }
+{
+    let bytes = load(alloc, store, name, MOST_TRACE)?;
+    Ok(read_trace(alloc, &bytes)?)
 }

@@ -1,8 +1,8 @@
 //! What the program is asked for, and what it reads before it answers: the words, the files that
 //! are loaded for them, and the lines on standard error.
 //!
-//! * `words`: what the words ask for; `run_form`: the words of the form `run`, and its files.
-//! * `files`: a file that holds a relation or a script, and `faults`: why it is not read.
+//! * `words`: what the words ask for; `run_form`, `check_form`: the words of each form, and its files.
+//! * `files`: a file that holds a relation, a script or a trace, and `faults`: why it is not read.
 //! * `saying`: the lines on standard error.
 //! * `laws`: of the files of a task none is bad, or one is the first bad one.
 //!
@@ -11,6 +11,7 @@
 //! `Lines` what is said.
 #![tactic(auto)]
 
+mod check_form;
 mod faults;
 mod files;
 pub mod laws;
@@ -18,6 +19,7 @@ mod run_form;
 mod saying;
 mod words;
 
+pub use check_form::check_input;
 pub use faults::{FileFault, Halt, Unread};
 pub use run_form::{RunInputs, RunWords, run_inputs};
 pub use saying::{say_halt, say_no_memory, say_usage};

@@ -95,6 +95,7 @@ fn say_fault<E: Sink>(err: &mut E, name: &str, fault: FileFault)
         FileFault::Relation { what, at } => say_place(err, name, what.as_str().as_bytes(), at),
         FileFault::Script { line, what } => say_line(err, name, line, what.as_str().as_bytes()),
         FileFault::NotYet { line } => say_line(err, name, line, b"NotYet"),
+        FileFault::Trace { line, what } => say_line(err, name, line, what.as_str().as_bytes()),
     }
 }
 

@@ -5,6 +5,7 @@ ghost use Rattle.cohere_inputs.specs.Asked.{asked};
 ghost use Rattle.cohere_inputs.specs.Task.{IsAsked};
 ghost use Rattle.cohere_inputs.specs.Words.{texts, task_of};
 
+use crate::check_form::check_words;
 use crate::run_form::{RunWords, run_words};
 
 /// The greatest line of a relation's file that can be asked for.
@@ -15,6 +16,8 @@ pub const MOST_LINE: u32 = 1_000_000;
 pub enum Task<'a> {
     /// Answers a script over a relation.
     Run(RunWords<'a>),
+    /// Judges the trace in the file of this name.
+    Check(&'a str),
 }
 
 /// What the words ask for, where they fit a form.
@@ -25,6 +28,7 @@ pub fn task_of(words: &[String]) -> Option<Task<'_>>
     let (word, words) = words.split_first()?;
     match word.as_str() {
         "run" => run_words(words).map(Task::Run),
+        "check" => check_words(words).map(Task::Check),
         _ => None,
     }
 }

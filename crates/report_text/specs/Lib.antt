@@ -5,3 +5,4 @@ pub mod Arrays
 pub mod Classes
 pub mod Constants
 pub mod Tests
+pub mod Verdicts

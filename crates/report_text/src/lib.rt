@@ -6,6 +6,7 @@
 //! * `test_lines`: the answer of the five tests.
 //! * `arrays`: the answers on distance-regular graphs.
 //! * `graphs`: the answers that show a graph of classes.
+//! * `verdict_lines`: the answer of a check of a trace.
 //!
 //! Each text stands in `specs/` as a function of the mathematical values that the call is given;
 //! docs/FORMATS.md has them in words. Every line ends with one LF byte, and single spaces part the
@@ -21,6 +22,7 @@ mod matrices;
 mod test_lines;
 #[cfg(test)]
 mod tests;
+mod verdict_lines;
 
 pub use arrays::array_text;
 pub use classes::classes_text;
@@ -29,3 +31,4 @@ pub use edit_lines::{edit_text, refused_text};
 pub use graphs::{GraphNote, graph_text};
 pub use matrices::{MatrixHead, matrix_text};
 pub use test_lines::tests_text;
+pub use verdict_lines::verdict_text;

@@ -22,7 +22,7 @@ fn repeated(
 }
 
 // The front, and then the byte `?` up to so many bytes in all.
-fn padded(alloc: Global, front: &[u8], size: usize) -> Result<Vec<u8>, AllocError> {
+pub(super) fn padded(alloc: Global, front: &[u8], size: usize) -> Result<Vec<u8>, AllocError> {
     let mut text = Vec::from_slice(alloc, front)?;
     text.resize(size, b'?')?;
     Ok(text)

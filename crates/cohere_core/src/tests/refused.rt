@@ -8,12 +8,14 @@ const USAGE: &[u8] =
     b"usage: cohere run RELATION SCRIPT [LINE] | cohere check TRACE | cohere demo NUMBER\n";
 
 // Words that fit no form.
-const WORDS: [&[&str]; 7] = [
+const WORDS: [&[&str]; 9] = [
     &["run", "R"],
     &["run", "-", "-"],
     &["run", "R", "S", "01"],
     &["run", "R", "S", "0"],
     &["run", "R", "S", "1000001"],
+    &["check"],
+    &["check", "T", "U"],
     &["demo", "1", "2"],
     &[],
 ];

@@ -1,0 +1,30 @@
+use Rattle.std.proofs.Common.{sym, subst}
+use Rattle.std.proofs.lemmas.Result.{err_from_is_err_and}
+use Rattle.scheme_io.specs.Count.{Rose}
+use Rattle.cohere_inputs.specs.declared.faults.Unread.{Unread}
+use Rattle.cohere_inputs.specs.Needs.{trace_need}
+use Rattle.cohere_inputs.specs.Unread.{IsCause}
+use Rattle.cohere_inputs.proofs.TraceFiles.{trace_file, trace_lines_fit, trace_cause}
+use Rattle.cohere_inputs.proofs.files.claim_in.Goals as goal
+
+pub returns-clause-lines : goal.returns-clause-lines
+returns-clause-lines g c =
+    trace_lines_fit c.in_ok-bytes.bytes.items c.deref.result.now c.in_ok-read_trace.field-0
+    c.deref.ensures.value c.in_ok-bytes.ensures.short c.in_ok-read_trace.ensures.claim
+
+pub returns-clause-read : goal.returns-clause-read
+returns-clause-read g c =
+    trace_file (g.S.Store.files c.args.store.now) c.args.name.now c.in_ok-bytes.bytes.items c.deref.result.now c.in_ok-read_trace.field-0
+    c.deref.ensures.value c.in_ok-bytes.ensures.found c.in_ok-bytes.ensures.short c.in_ok-read_trace.ensures.claim
+
+pub returns-in_err-read_trace-clause-cause : goal.returns-in_err-read_trace-clause-cause
+returns-in_err-read_trace-clause-cause g c =
+    let files = g.S.Store.files c.args.store.now in
+    let rose = Rose (g.S.Store.faults c.args.store.now) (g.S.Store.faults c.load.new.store) in
+    let err = err_from_is_err_and c.from_residual-in_err-read_trace.result c.from_residual-in_err-read_trace.ensures.1 in
+    let cause = trace_cause files c.args.name.now c.in_ok-bytes.bytes.items c.deref.result.now c.in_err-read_trace.field-0.0 rose
+    c.deref.ensures.value c.in_ok-bytes.ensures.found c.in_ok-bytes.ensures.short c.in_err-read_trace.ensures.fault in
+    rw err.1 (subst (λ (why : Unread). IsCause files (trace_need c.args.name.now) why rose) (sym err.2) cause)
+
+pub returns-clause-has_stage : goal.returns-clause-has_stage
+returns-clause-has_stage g c = c.in_ok-read_trace.ensures.claim.lines.fits.has_stage

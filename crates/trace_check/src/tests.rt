@@ -38,8 +38,11 @@ fn stage(alloc: Global, colours: [u32; 4], steps: [Option<Step>; 2]) -> Result<S
 }
 
 const ONE_COLOUR: [u32; 4] = [7, 7, 7, 7];
+
 const DIAGONAL: [u32; 4] = [0, 1, 1, 0];
+
 const DIRECTED: [u32; 4] = [0, 1, 2, 0];
+
 const DISCRETE: [u32; 4] = [0, 2, 3, 1];
 
 const fn accepted(rank: u32) -> Verdict {

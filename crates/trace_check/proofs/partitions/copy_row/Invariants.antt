@@ -7,5 +7,5 @@ invariant-loop-y l = record {
   size : l.colouring.size ≡ l.fn.colouring.size;
   len : length l.colouring.colours ≡ length l.fn.colouring.colours;
   row : (y : ℕ) → y < l.y → colour_at l.colouring l.x y ≡ colour_at l.cells l.x y;
-  others : (u v : ℕ) → u < l.cells.size → v < l.cells.size → u ≢ l.x → colour_at l.colouring u v ≡ colour_at l.fn.colouring u v
+  others : (u v : ℕ) → u < l.cells.size → v < l.cells.size → u ≢ l.x → colour_at l.colouring u v ≡ colour_at l.fn.colouring u v;
 }

@@ -6,5 +6,5 @@ abbrev pub invariant-loop-x : goal.invariant-loop-x
 invariant-loop-x l = record {
   size : l.partition.size ≡ l.cells.size;
   len : length l.partition.colours ≡ l.cells.size * l.cells.size;
-  rows : (x y : ℕ) → x < l.x → y < l.cells.size → colour_at l.partition x y ≡ colour_at l.cells x y
+  rows : (x y : ℕ) → x < l.x → y < l.cells.size → colour_at l.partition x y ≡ colour_at l.cells x y;
 }

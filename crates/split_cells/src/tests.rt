@@ -1,4 +1,7 @@
+//! A few steps on three points.
+
 ghost use Rattle.std.specs.Prelude.{◌≤◌};
+ghost use Rattle.pair_colours.specs.declared.coloured_pairs.TheConstants.{MOST_POINTS};
 
 use super::*;
 use pair_colours::{Colouring, NoMemory};
@@ -9,7 +12,7 @@ use trace_text::Step;
 // The partition that is made of one class of the pairs of `size` points.
 fn one_class(alloc: Global, size: u32) -> Result<Cells, NoMemory>
     requires some { 1 ≤ size }
-    requires limit { size ≤ 128 }
+    requires limit { size ≤ MOST_POINTS }
 {
     let raw = Colouring::new(alloc, size, 0)?;
     let _size = raw.size();

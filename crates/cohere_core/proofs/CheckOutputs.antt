@@ -102,11 +102,6 @@ refused_output None trace claim line word old new file first added = tt
 refused_output (Some files) trace claim line word old new file first added =
     record { claim = claim; file = file; refused = λ accepts. accepted_has_none claim line word accepts first; line = line; word = word; first = first; added = added }
 
-pub sunk_output : (files : Option Files) (trace : List ℕ) (claim : Claim) (old new : Option (List ℕ)) → IfSome files (λ files. IsTraceFile files trace claim)
-    → AddsAnswerFront claim old new → OutputAfter (Check trace) statuses.SinkFailed files old new
-sunk_output None trace claim old new file front = tt
-sunk_output (Some files) trace claim old new file front = (claim, file, front)
-
 pub front_output : (files : Option Files) (trace : List ℕ) (claim : Claim) (old new : Option (List ℕ)) → IfSome files (λ files. IsTraceFile files trace claim)
     → AddsAnswerFront claim old new → OutputAfter (Check trace) statuses.NoMemory files old new
 front_output None trace claim old new file front = tt
@@ -140,7 +135,3 @@ refused_completely (Some files) trace claim line word file first = record {
   });
   bad = λ need fault bad. absurd (none_is_first files (Check trace) need fault (good_trace files trace claim file) bad);
 }
-
-pub wanting_completely : (files : Option Files) (trace : List ℕ) → IsStatusWithoutFaults (Check trace) statuses.NoMemory files
-wanting_completely None trace = tt
-wanting_completely (Some files) trace = record { good = λ _. inr refl; bad = λ need fault bad. inr refl }

@@ -18,7 +18,6 @@ use Rattle.report_text.specs.Tests.{tests_text_of}
 use Rattle.report_text.specs.Arrays.{array_text_of}
 use Rattle.scheme_tests.specs.declared.properties.SchemeTests.{SchemeTests}
 use Rattle.scheme_tests.specs.Law.{AreAnswers}
-use Rattle.drg_arrays.specs.Graph.{graph_of}
 use Rattle.drg_arrays.proofs.LawProofs.{answer_is_unique}
 use Rattle.script_text.specs.declared.acts.Act.{Act}
 use Rattle.script_text.specs.declared.acts.Act.TheVariants.{Trace, Show, Raw, Classes, Constants, Tests, Array, Write}

@@ -1,11 +1,10 @@
 -- The output of a run of a script, and its status.
-use Rattle.std.proofs.Common.{◌≡◌, ◌⊎◌, ℕ, List, Option, Some, None, refl, subst, arith}
+use Rattle.std.proofs.Common.{◌≡◌, ◌⊎◌, ℕ, List, Option, Some, None, refl, subst}
 use Rattle.std.specs.Prelude.{IfSome}
 use Rattle.std.specs.List.{AllByRecursion}
 use Rattle.std.proofs.KnownBytes.{Keeps-refl, Appends-nil}
 use Rattle.scheme_io.specs.Files.{Files}
-use Rattle.pair_colours.specs.Colouring.{PairColouring, IsRawColouring}
-use Rattle.relation_text.specs.Relation.{IsRelationText}
+use Rattle.pair_colours.specs.Colouring.{PairColouring}
 use Rattle.relation_text.proofs.LawProofs.{reading_is_raw}
 use Rattle.script_text.specs.declared.acts.Line.{Line}
 use Rattle.cohere_inputs.specs.declared.faults.FileFault.TheVariants.{Missing, TooLong, Relation, Script, NotYet, Trace}

@@ -202,7 +202,11 @@ body-from_IsBitText format bytes n bits size encoded =
       padding = rw (bits_part-encoded n bits, sz, ← encoded.pairs) holds.padding;
     })
 
--- the bytes after the size of a good line
+-- the bytes of a good line, and those after its size
+pub body_printable : (format : GraphFormat) (body : Part) → first_that_holds (graph_tests format body) ≡ None → All (λ b. 63 ≤ b) body.bytes
+body_printable format body none =
+    All-weaker (λ b. is_graph_byte b ≡ true) (λ b. 63 ≤ b) (λ b e. (from_graph_byte b e).0) body.bytes (body-from_none format body none).printable
+
 pub bits_printable : (format : GraphFormat) (body : Part) (part : List ℕ) → first_that_holds (graph_tests format body) ≡ None → part ≡ bits_part body.bytes → All (λ b. 63 ≤ b) part
 bits_printable format body part none e =
     let holds = HoldsBits-from_body format body.bytes (body-from_none format body none) in

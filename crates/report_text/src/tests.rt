@@ -182,12 +182,28 @@ fn larger_configurations(rt: HostRuntime) -> Result<(), Fail> {
     Ok(())
 }
 
-// The classes of the path on three points, the constants of the group of three elements, and the
-// answers that show no configuration.
+// Compares the lists of the classes and of the constants of the configuration with these rows.
+fn lists(
+    rt: &impl Abort,
+    alloc: Global,
+    rows: &[&[u32]],
+    classes: &str,
+    constants: &str,
+) -> Result<(), NoMemory>
+    requires has_points { 1 ≤ length rows.now }
+    requires limit { length rows.now ≤ MOST_POINTS }
+    requires square { IsTrue (list_all (λ row. length row.now == length rows.now) rows.now) }
+    requires coherent { let K : PairColouring = record { size = length rows.now; colours = flat_map (λ row. row.now) rows.now } in Coherent K }
+    requires named { let K : PairColouring = record { size = length rows.now; colours = flat_map (λ row. row.now) rows.now } in named_of K ≡ K }
+{
+    let k = configuration(alloc, rows)?;
+    same(rt, classes_text(alloc, &k), classes)?;
+    same(rt, constants_text(alloc, &k), constants)
+}
+
+// The path 0, 1, 2.
 #[test]
-fn texts(rt: HostRuntime) -> Result<(), Fail> {
-    let alloc = rt.alloc();
-    let path = configuration(alloc, &[&[0, 2, 3], &[4, 1, 4], &[3, 2, 0]])?;
+fn classes_and_constants(rt: HostRuntime) -> Result<(), Fail> {
     let classes = "classes 5
 class 0 size 2 valency 1 transpose 0 pair 0 0 fibres 0 0
 class 1 size 1 valency 1 transpose 1 pair 1 1 fibres 1 1
@@ -195,29 +211,43 @@ class 2 size 2 valency 1 transpose 4 pair 0 1 fibres 0 1
 class 3 size 2 valency 1 transpose 3 pair 0 2 fibres 0 0
 class 4 size 2 valency 2 transpose 2 pair 1 0 fibres 1 0
 ";
-    same(&rt, classes_text(alloc, &path), classes)?;
-    let group = configuration(alloc, &[&[0, 1, 2], &[2, 0, 1], &[1, 2, 0]])?;
-    let constants = "constants 3 entries 9
+    let constants = "constants 5 entries 14
 0 0 0 1
-1 2 0 1
-2 1 0 1
-0 1 1 1
-1 0 1 1
-2 2 1 1
+2 4 0 1
+3 3 0 1
+1 1 1 1
+4 2 1 2
 0 2 2 1
-1 1 2 1
-2 0 2 1
+2 1 2 1
+3 2 2 1
+0 3 3 1
+2 4 3 1
+3 0 3 1
+1 4 4 1
+4 0 4 1
+4 3 4 1
 ";
-    same(&rt, constants_text(alloc, &group), constants)?;
-    let shown = "show points 3 rank 3\n0 1 2\n2 0 1\n1 2 0\n";
-    same(
-        &rt,
-        matrix_text(alloc, MatrixHead::Show, group.colouring()),
-        shown,
-    )?;
-    let sevens = Colouring::from_rows(alloc, &[&[7, 7], &[7, 7]])?;
-    let raw = "raw points 2 colours 1\n7 7\n7 7\n";
-    same(&rt, matrix_text(alloc, MatrixHead::Raw, &sevens), raw)?;
+    let rows: [&[u32]; 3] = [&[0, 2, 3], &[4, 1, 4], &[3, 2, 0]];
+    lists(&rt, rt.alloc(), &rows, classes, constants)?;
+    Ok(())
+}
+
+// The answer that shows the matrix with these rows.
+fn matrix(alloc: Global, head: MatrixHead, rows: &[&[u32]]) -> Result<Vec<u8>, NoMemory>
+    requires has_points { 1 ≤ length rows.now }
+    requires limit { length rows.now ≤ MOST_POINTS }
+    requires square { IsTrue (list_all (λ row. length row.now == length rows.now) rows.now) }
+{
+    matrix_text(alloc, head, &Colouring::from_rows(alloc, rows)?)
+}
+
+#[test]
+fn other_answers(rt: HostRuntime) -> Result<(), Fail> {
+    let alloc = rt.alloc();
+    let show = matrix(alloc, MatrixHead::Show, &[&[0, 1], &[1, 0]]);
+    same(&rt, show, "show points 2 rank 2\n0 1\n1 0\n")?;
+    let raw = matrix(alloc, MatrixHead::Raw, &[&[7, 7], &[7, 7]]);
+    same(&rt, raw, "raw points 2 colours 1\n7 7\n7 7\n")?;
     same(&rt, edit_text(alloc, 5, 13), "ok points 5 rank 13\n")?;
     let digraph = graph_text(alloc, GraphNote::Digraph6, b"&BP_");
     same(&rt, digraph, "digraph6 &BP_\n")?;

@@ -1,7 +1,7 @@
 -- The tests of a line whose first word is a keyword.
-use Rattle.std.proofs.Common.{◌≡◌, ◌≢◌, ℕ, Bool, true, false, cond, List, [], ◌∷◌, length, Option, Some, None, bytes_eq, refl, subst, inl, inr, ⊎_elim, ◌⊎◌}
+use Rattle.std.proofs.Common.{◌≡◌, ℕ, Bool, true, false, cond, List, [], ◌∷◌, length, Option, Some, None, bytes_eq, refl, subst, inl, inr, ⊎_elim, ◌⊎◌}
 use Rattle.std.specs.Prelude.{find}
-use Rattle.std.proofs.lemmas.Bool.{false_from_ne_true, not-false, not_from_true}
+use Rattle.std.proofs.lemmas.Bool.{not-false, not_from_true}
 use Rattle.std.proofs.lemmas.Slice.Eq.{bytes_eq-Decides}
 use Rattle.pair_colours.specs.Tests.{first_that_holds}
 use Rattle.pair_colours.proofs.TestLemmas.{AllFail-from_none, none-from_AllFail}
@@ -39,10 +39,6 @@ keyword_of-spelling Mergings = refl
 keyword_of-spelling Trace = refl
 keyword_of-spelling Write = refl
 
-find_never : {X : Type 0} (p : X → Bool) → ((x : X) → p x ≡ false) → (xs : List X) → find p xs ≡ None
-find_never p never [] = refl
-find_never p never (x ∷ xs) = rw (never x) (find_never p never xs)
-
 chosen : {X : Type 0} (x y : X) (b : Bool) (rest : Option X) → cond b (Some y) rest ≡ Some x → ((b ≡ true) × (y ≡ x)) ⊎ (rest ≡ Some x)
 chosen x y true rest e = inl (refl, cc)
 chosen x y false rest e = inr e
@@ -53,13 +49,7 @@ find_passes p x (y ∷ ys) e =
     let after : find p ys ≡ Some x → p x ≡ true = find_passes p x ys in
     ⊎_elim (λ here. subst (λ z. p z ≡ true) here.1 here.0) after (chosen x y (p y) (find p ys) e)
 
--- what spells no keyword is none
-pub keyword_of_none : (word : List ℕ) → ((keyword : Keyword) → word ≢ spelling keyword) → keyword_of word ≡ None
-unfolding keyword_of
-keyword_of_none word none =
-    find_never (λ keyword. bytes_eq word (spelling keyword))
-    (λ keyword. false_from_ne_true _ (λ e. none keyword ((bytes_eq-Decides word (spelling keyword)).0 e))) keywords
-
+-- and it spells the keyword that it is
 pub spelling-keyword_of : (word : List ℕ) (keyword : Keyword) → keyword_of word ≡ Some keyword → word ≡ spelling keyword
 unfolding keyword_of
 spelling-keyword_of word keyword e =

@@ -1,9 +1,8 @@
 //! The words that lines begin with.
 
-ghost use Rattle.std.specs.Prelude.{◌≡◌, ◌≢◌, IfSome, IfNone};
+ghost use Rattle.std.specs.Prelude.{◌≡◌};
 ghost use Rattle.script_text.specs.Answers.{texts};
-ghost use Rattle.script_text.specs.Keyword.{spelling, allows, has_unknown_word};
-ghost use Rattle.script_text.specs.declared.keywords.Keyword.{Keyword};
+ghost use Rattle.script_text.specs.Keyword.{keyword_of, spelling, allows, has_unknown_word};
 
 // The first word of a line.
 #[derive(Clone, Copy, Debug, PartialEq, Eq)]
@@ -34,38 +33,76 @@ pub(crate) enum Keyword {
     Write,
 }
 
+// All of them.
+const KEYWORDS: [Keyword; 24] = [
+    Keyword::Set,
+    Keyword::Both,
+    Keyword::Fix,
+    Keyword::Join,
+    Keyword::Adopt,
+    Keyword::Fuse,
+    Keyword::Direct,
+    Keyword::Wreath,
+    Keyword::Undo,
+    Keyword::Redo,
+    Keyword::Show,
+    Keyword::Raw,
+    Keyword::Classes,
+    Keyword::Constants,
+    Keyword::Tests,
+    Keyword::Array,
+    Keyword::Closed,
+    Keyword::Quotient,
+    Keyword::Sub,
+    Keyword::Close,
+    Keyword::Good,
+    Keyword::Mergings,
+    Keyword::Trace,
+    Keyword::Write,
+];
+
+impl Keyword {
+    // How the keyword is spelled.
+    fn spelling(self) -> &'static [u8]
+        ensures { result.now ≡ spelling self }
+    {
+        match self {
+            Keyword::Set => b"set",
+            Keyword::Both => b"both",
+            Keyword::Fix => b"fix",
+            Keyword::Join => b"join",
+            Keyword::Adopt => b"adopt",
+            Keyword::Fuse => b"fuse",
+            Keyword::Direct => b"direct",
+            Keyword::Wreath => b"wreath",
+            Keyword::Undo => b"undo",
+            Keyword::Redo => b"redo",
+            Keyword::Show => b"show",
+            Keyword::Raw => b"raw",
+            Keyword::Classes => b"classes",
+            Keyword::Constants => b"constants",
+            Keyword::Tests => b"tests",
+            Keyword::Array => b"array",
+            Keyword::Closed => b"closed",
+            Keyword::Quotient => b"quotient",
+            Keyword::Sub => b"sub",
+            Keyword::Close => b"close",
+            Keyword::Good => b"good",
+            Keyword::Mergings => b"mergings",
+            Keyword::Trace => b"trace",
+            Keyword::Write => b"write",
+        }
+    }
+}
+
 // The keyword that a word is, if it is one.
 pub(crate) fn keyword_of(word: &[u8]) -> Option<Keyword>
-    ensures found { IfSome result (λ keyword. word.now ≡ spelling keyword) }
-    ensures none { IfNone result ((keyword : Keyword) → word.now ≢ spelling keyword) }
+    ensures { result ≡ keyword_of word.now }
 {
-    match word {
-        b"set" => Some(Keyword::Set),
-        b"both" => Some(Keyword::Both),
-        b"fix" => Some(Keyword::Fix),
-        b"join" => Some(Keyword::Join),
-        b"adopt" => Some(Keyword::Adopt),
-        b"fuse" => Some(Keyword::Fuse),
-        b"direct" => Some(Keyword::Direct),
-        b"wreath" => Some(Keyword::Wreath),
-        b"undo" => Some(Keyword::Undo),
-        b"redo" => Some(Keyword::Redo),
-        b"show" => Some(Keyword::Show),
-        b"raw" => Some(Keyword::Raw),
-        b"classes" => Some(Keyword::Classes),
-        b"constants" => Some(Keyword::Constants),
-        b"tests" => Some(Keyword::Tests),
-        b"array" => Some(Keyword::Array),
-        b"closed" => Some(Keyword::Closed),
-        b"quotient" => Some(Keyword::Quotient),
-        b"sub" => Some(Keyword::Sub),
-        b"close" => Some(Keyword::Close),
-        b"good" => Some(Keyword::Good),
-        b"mergings" => Some(Keyword::Mergings),
-        b"trace" => Some(Keyword::Trace),
-        b"write" => Some(Keyword::Write),
-        _ => None,
-    }
+    KEYWORDS
+        .iter()
+        .copied()
+        .find(|keyword| word == keyword.spelling())
 }
 
 // Whether so many words may follow the keyword.

@@ -1,5 +1,5 @@
 -- The partition that `Cells` keeps, and what a step makes of it.
-use Rattle.std.proofs.Common.{◌≡◌, ◌≢◌, ◌↔◌, ◌==◌, ◌&&◌, nat_lt, ℕ, ◌+◌, ◌*◌, ◌/◌, ◌%◌, ◌^◌, ◌<◌, ◌≤◌, Bool, true, false, if◌then◌else◌, List, length, get_or, map, filter, count_by, replicate, All, ⊎_elim, refl, sym, ap, subst, ◌∙◌, arith, zero, suc}
+use Rattle.std.proofs.Common.{◌≡◌, ◌≢◌, ◌↔◌, ◌==◌, ◌&&◌, nat_lt, ℕ, ◌+◌, ◌-◌, ◌*◌, ◌/◌, ◌%◌, ◌^◌, ◌<◌, ◌≤◌, Bool, true, false, if◌then◌else◌, List, length, get_or, map, filter, count_by, replicate, All, ⊎_elim, refl, sym, ap, subst, ◌∙◌, arith, zero, suc}
 use Rattle.std.proofs.lemmas.Bool.{cases_eq, cases_lt, eq-eqb, eqb-true, ne_eqb, lt-ltb, le-ltb}
 use Rattle.std.proofs.lemmas.List.{length-map, ext_get_or, length-replicate, get_or-replicate, get_or_past}
 use Rattle.std.proofs.lemmas.List.FromFn.{length-range_with_len, get_or-map-range_with_len}
@@ -18,17 +18,12 @@ use Rattle.trace_text.specs.Split.{HasParts, numbers_of, split_of}
 use Rattle.trace_text.specs.Parts.{keys_in, part_number, class_parted_by}
 use Rattle.trace_text.proofs.LawProofs.{parts_one_class, parts_two_keys}
 use Rattle.trace_text.proofs.Partitions.{UsesBelow, rank_from_used, IsPartition-from_used, IsPartition-named_of}
-use Rattle.split_cells.specs.declared.classed_pairs.ClassedPairs.{ClassedPairs}
 use Rattle.split_cells.specs.Segments.{IsMembers}
-use Rattle.split_cells.specs.Counts.{Counts}
 use Rattle.split_cells.specs.Grids.{IsUsed, grid}
-use Rattle.split_cells.specs.Pairs.{partition_of}
-use Rattle.split_cells.specs.Keys.{IsGathered, IsBlank, class_of, key_inside, key_at, counts_in}
+use Rattle.split_cells.specs.Keys.{IsBlank, class_of, key_inside, key_at, counts_in}
 use Rattle.split_cells.specs.Sorted.{IsNumbered}
-use Rattle.split_cells.specs.Parts.{IsParted, part_from}
-use Rattle.split_cells.specs.Kept.{IsKept}
 use Rattle.split_cells.proofs.PointCounts.{count_one_more, count_none}
-use Rattle.split_cells.proofs.PartLemmas.{Each-passed}
+use Rattle.split_cells.proofs.PartLemmas.{Each-passed, below_idle}
 
 -- the classes of a grid with the numbers below r in use
 module _ (size : ℕ) (class : List ℕ) (r : ℕ) (some : 1 ≤ size) (len : length class ≡ size * size) (below : (p : ℕ) → p < length class → get_or class p 0 < r) (used : IsUsed class r) where
@@ -94,40 +89,61 @@ keys_of_counts size class counts s len inside =
     in_class : ℕ × ℕ → Bool
     in_class p = colour_at (grid size class) p.0 p.1 == class_of s
 
--- the parts that were made are those of the step
-module _ (size : ℕ) (class counts new : List ℕ) (s : Step) (r : ℕ) (some : 1 ≤ size) (len : length class ≡ size * size) (rank : rank_of (grid size class) ≡ r)
-    (g : IsGathered class (class_of s) (key_at (grid size class) s) counts) (h : IsParted size class counts (class_of s) r new) where
-  pub keys_gathered : counts_in size class counts (class_of s) ≡ keys_in (grid size class) (class_of s) (key_inside (grid size class) s)
-  keys_gathered = keys_of_counts size class counts s len g.inside
+-- how many keys of the class of a step are below one
+abbrev pub keys_before : PairColouring → Step → ℕ → ℕ
+keys_before P s key = count_by (λ other. nat_lt other key) (keys_in P (class_of s) (key_inside P s))
 
-  abbrev part_at : ℕ → ℕ
-  part_at key = part_number (grid size class) (class_of s) (count_by (λ w. nat_lt w key) (keys_in (grid size class) (class_of s) (key_inside (grid size class) s)))
+-- what a step makes of a partition, place by place
+pub split_by_places : (P : PairColouring) (s : Step) (new : List ℕ) → IsColouring P → length new ≡ P.size * P.size
+    → ((p : ℕ) → p < P.size * P.size → get_or P.colours p 0 ≢ class_of s → get_or new p 0 ≡ get_or P.colours p 0)
+    → ((p : ℕ) → p < P.size * P.size → get_or P.colours p 0 ≡ class_of s → get_or new p 0 ≡ part_number P (class_of s) (keys_before P s (key_at P s p)))
+    → grid P.size new ≡ split_of P s
+split_by_places P s new a len others parts =
+    ap (grid P.size) (ext_get_or 0 new (map after (points (P.size * P.size)))
+    (len ∙ sym (length-range_with_len 0 (P.size * P.size)) ∙ sym (length-map (points (P.size * P.size)) after))
+    (λ p l.
+    let low : p < P.size * P.size = omega (arith, l, len) in
+    at p low ∙ sym (get_or-map-range_with_len after 0 (P.size * P.size) p p 0 low (omega arith))))
+    ∙ sym (split_by_key P s a)
+  where
+    after : ℕ → ℕ
+    after p =
+        if colour_at P (p / P.size) (p % P.size) == class_of s then part_number P (class_of s) (keys_before P s (key_at P s p)) else colour_at P (p / P.size) (p % P.size)
 
-  abbrev after : ℕ → ℕ
-  after p = if colour_at (grid size class) (p / size) (p % size) == class_of s then part_at (key_at (grid size class) s p) else colour_at (grid size class) (p / size) (p % size)
+    at : (p : ℕ) → p < P.size * P.size → get_or new p 0 ≡ after p
+    at p l =
+        let back : colour_at P (p / P.size) (p % P.size) ≡ get_or P.colours p 0 = ap (λ q. get_or P.colours q 0) (div-add-mod' p P.size) in
+        ⊎_elim
+        (λ e.
+        parts p l e
+        ∙ sym (ap (λ b. if b then part_number P (class_of s) (keys_before P s (key_at P s p)) else colour_at P (p / P.size) (p % P.size)) (eq-eqb _ _ (back ∙ e))))
+        (λ ne.
+        others p l ne ∙ sym back
+        ∙ sym (ap (λ b. if b then part_number P (class_of s) (keys_before P s (key_at P s p)) else colour_at P (p / P.size) (p % P.size)) (ne_eqb _ _ (λ f. ne (sym back ∙ f)))))
+        (cases_eq (get_or P.colours p 0) (class_of s))
 
-  at : (p : ℕ) → p < size * size → get_or new p 0 ≡ after p
-  at p l =
-      let inside : p < length class = omega (arith, l, len) in
-      let back : colour_at (grid size class) (p / size) (p % size) ≡ get_or class p 0 = ap (λ q. get_or class q 0) (div-add-mod' p size) in
-      ⊎_elim
-      (λ e.
-      h.parts p inside e
-      ∙ (λ i. part_from (sym rank i) (class_of s) (count_by (λ w. nat_lt w (g.inside p inside e i)) (keys_gathered i)))
-      ∙ sym (ap (λ b. if b then part_at (key_at (grid size class) s p) else colour_at (grid size class) (p / size) (p % size)) (eq-eqb _ _ (back ∙ e))))
-      (λ ne.
-      h.others p inside ne ∙ sym back
-      ∙ sym (ap (λ b. if b then part_at (key_at (grid size class) s p) else colour_at (grid size class) (p / size) (p % size)) (ne_eqb _ _ (λ f. ne (sym back ∙ f)))))
-      (cases_eq (get_or class p 0) (class_of s))
+-- a step without parts changes nothing
+module _ (P : PairColouring) (s : Step) (a : IsColouring P) where
+  abbrev counts : List ℕ
+  counts = map (key_at P s) (points (P.size * P.size))
 
-  pub split_made : grid size new ≡ split_of (grid size class) s
-  split_made =
-      ap (grid size) (ext_get_or 0 new (map after (points (size * size)))
-      (h.len ∙ len ∙ sym (length-range_with_len 0 (size * size)) ∙ sym (length-map (points (size * size)) after))
-      (λ p l.
-      let low : p < size * size = omega (arith, l, h.len, len) in
-      at p low ∙ sym (get_or-map-range_with_len after 0 (size * size) p p 0 low (omega arith))))
-      ∙ sym (split_by_key (grid size class) s (record { has_points = some; has_pairs = len }))
+  count_is : (p : ℕ) → p < P.size * P.size → get_or counts p 0 ≡ key_at P s p
+  count_is p l = get_or-map-range_with_len (key_at P s) 0 (P.size * P.size) p p 0 l (omega arith)
+
+  same_keys : counts_in P.size P.colours counts (class_of s) ≡ keys_in P (class_of s) (key_inside P s)
+  same_keys = keys_of_counts P.size P.colours counts s a.has_pairs (λ p l e. count_is p (omega (arith, l, a.has_pairs)))
+
+  few_keys : ¬ HasParts P s → length (counts_in P.size P.colours counts (class_of s)) < 2
+  few_keys idle =
+      ⊎_elim (λ l. l) (λ g. absurd (idle ((parts_from_keys P s).1 (subst (λ l. 2 ≤ length l) same_keys g)))) (cases_lt (length (counts_in P.size P.colours counts (class_of s))) 2)
+
+  pub split_idle : ¬ HasParts P s → P ≡ split_of P s
+  split_idle idle =
+      split_by_places P s P.colours a a.has_pairs (λ p l ne. refl) (λ p l e.
+      let none : keys_before P s (key_at P s p) ≡ 0 =
+      (λ i. count_by (λ other. nat_lt other (sym (count_is p l) i)) (sym same_keys i))
+      ∙ below_idle P.size P.colours a.has_pairs counts (class_of s) (get_or counts p 0) (record { number = p; inside = omega (arith, l, a.has_pairs); member = e; is = refl }) (few_keys idle) in
+      e ∙ sym (ap (λ b. if b then class_of s else rank_of P + (keys_before P s (key_at P s p) - 1)) (eq-eqb _ 0 none)))
 
 -- how many pairs a class has
 module _ {class : List ℕ} {k : ℕ} {at : ℕ → ℕ} {members : List ℕ} (m : IsMembers class k at members) where
@@ -175,33 +191,6 @@ module _ {class : List ℕ} {k : ℕ} {at : ℕ → ℕ} {members : List ℕ} (m
           ext_get_or 0 class (map (λ p. get_or class p 0) (points (length class)))
           (sym (length-range_with_len 0 (length class)) ∙ sym (length-map (points (length class)) (λ p. get_or class p 0)))
           (λ p l. sym (get_or-map-range_with_len (λ p. get_or class p 0) 0 (length class) p p 0 l (omega arith)))
-
--- what is kept is a partition
-module _ {pairs : ClassedPairs} {t : Counts} (h : IsKept pairs t) where
-  len_kept : length pairs.parting.class.items ≡ pairs.size * pairs.size
-  len_kept = h.classed.parting.classes ∙ h.classed.bound
-
-  below_kept : (p : ℕ) → p < length pairs.parting.class.items → get_or pairs.parting.class.items p 0 < pairs.parting.rank
-  below_kept p l = h.classed.parting.class_in p (omega (arith, l, h.classed.parting.classes))
-
-  pub rank_kept : rank_of (partition_of pairs) ≡ pairs.parting.rank
-  rank_kept = rank_is pairs.size pairs.parting.class.items pairs.parting.rank h.classed.some len_kept below_kept h.used
-
-  pub IsPartition-kept : IsPartition (partition_of pairs)
-  IsPartition-kept = IsPartition-grid pairs.size pairs.parting.class.items pairs.parting.rank h.classed.some len_kept below_kept h.used
-
-  -- a step that was made
-  module _ (step : Step) (k : ℕ) (counts new : List ℕ) (is : k ≡ class_of step) (g : IsGathered pairs.parting.class.items (class_of step) (key_at (partition_of pairs) step) counts) where
-    pub parts_kept : HasParts (partition_of pairs) step ↔ (2 ≤ length (counts_in pairs.size pairs.parting.class.items counts k))
-    parts_kept =
-        let keys = ap (counts_in pairs.size pairs.parting.class.items counts) is ∙ keys_of_counts pairs.size pairs.parting.class.items counts step len_kept g.inside in
-        let two = parts_from_keys (partition_of pairs) step in
-        (λ x. subst (λ l. 2 ≤ length l) (sym keys) (two.0 x), λ x. two.1 (subst (λ l. 2 ≤ length l) keys x))
-
-    pub split_kept : IsParted pairs.size pairs.parting.class.items counts k pairs.parting.rank new → grid pairs.size new ≡ split_of (partition_of pairs) step
-    split_kept p =
-        split_made pairs.size pairs.parting.class.items counts new step pairs.parting.rank h.classed.some len_kept rank_kept g
-        (subst (λ c. IsParted pairs.size pairs.parting.class.items counts c pairs.parting.rank new) is p)
 
 -- the class of a step is among those that it names
 pub names_class : (r : ℕ) (s : Step) → All (λ number. number < r) (numbers_of s) → class_of s < r

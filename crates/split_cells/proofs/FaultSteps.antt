@@ -1,5 +1,5 @@
 -- Steps that part two pairs of their class, and what follows where there are none.
-use Rattle.std.proofs.Common.{◌≡◌, ◌≢◌, ◌==◌, ◌&&◌, ℕ, ◌+◌, ◌-◌, ◌*◌, ◌/◌, ◌%◌, ◌<◌, ◌≤◌, if◌then◌else◌, List, [], ◌∷◌, length, get_or, map, count_by, Option, Some, None, IfSome, ⊎_elim, refl, sym, ap, subst, ◌∙◌, arith}
+use Rattle.std.proofs.Common.{◌≡◌, ◌≢◌, ◌==◌, ◌&&◌, ℕ, ◌+◌, ◌-◌, ◌*◌, ◌/◌, ◌%◌, ◌<◌, ◌≤◌, if◌then◌else◌, List, [], ◌∷◌, length, get_or, map, count_by, ⊎_elim, refl, sym, ap, subst, ◌∙◌, arith}
 use Rattle.std.proofs.lemmas.Bool.{cases_eq, eq-eqb, ne_eqb, and_from}
 use Rattle.std.proofs.lemmas.List.Elements.{All-cons, All-nil}
 use Rattle.std.proofs.lemmas.List.FromFn.{get_or-map-range_with_len}
@@ -9,8 +9,7 @@ use Rattle.pair_colours.proofs.Counts.{unit_of}
 use Rattle.pair_colours.proofs.Places.{place_below, row_below, column_below}
 use Rattle.trace_text.specs.declared.step_list.Step.{Step}
 use Rattle.trace_text.specs.declared.step_list.Step.TheVariants.{Diag, Flip, Tri}
-use Rattle.pair_colours.specs.Naming.{rank_of}
-use Rattle.trace_text.specs.Split.{HasParts, IsAllowed}
+use Rattle.trace_text.specs.Split.{HasParts}
 use Rattle.split_cells.specs.declared.classed_pairs.ClassedPairs.{ClassedPairs}
 use Rattle.split_cells.specs.Segments.{class_at, first_of}
 use Rattle.split_cells.specs.Grids.{IsUsed, grid}
@@ -59,18 +58,6 @@ SplitsTwo-parts size class rank s len f =
     (cases_eq w (key_at P s p))) (keys size class len counts (class_of s))) in
     (parts_from_keys P s).1 (subst (λ l. 2 ≤ length l) same
     (omega (arith, apart, key_once size class len counts (class_of s) (key_at P s p) one, key_once size class len counts (class_of s) (key_at P s q) two)))
-
--- so it may be made
-pub IsAllowed-from : (pairs : ClassedPairs) (s : Step) → IsClassed pairs → rank_of (partition_of pairs) ≡ pairs.parting.rank → SplitsTwo (partition_of pairs) pairs.parting.rank s → IsAllowed (partition_of pairs) s
-IsAllowed-from pairs s h rank f = record {
-  names = subst (λ r. NamesBelow r s) (sym rank) f.names;
-  parts = SplitsTwo-parts pairs.size pairs.parting.class.items pairs.parting.rank s (h.parting.classes ∙ h.bound) f;
-}
-
--- what follows where there is some
-pub IfSome-more : {X : Type 0} (o : Option X) (A B : X → Type 0) → ((x : X) → A x → B x) → IfSome o A → IfSome o B
-IfSome-more None A B f a = tt
-IfSome-more (Some x) A B f a = f x a
 
 -- a triangle is counted
 pub some_triangle : (P : PairColouring) (x y z i j : ℕ) → z < P.size → colour_at P x z ≡ i → colour_at P z y ≡ j → 0 < triangles P x y i j

@@ -14,3 +14,7 @@ mod RowPairs
 mod CodeTables
 mod FaultSteps
 mod FellowPairs
+mod Labelled
+mod Marking
+mod Marked
+mod Exchanged

@@ -6,6 +6,8 @@ pub mod Keys
 pub mod Sides
 pub mod Parts
 pub mod Sorted
+pub mod Labels
+pub mod Marks
 pub mod Kept
 pub mod Faults
 pub mod Codes

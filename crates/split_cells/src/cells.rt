@@ -11,9 +11,9 @@ ghost use Rattle.trace_text.specs.Split.{HasParts, IsAllowed, NamesClasses, spli
 use crate::building::{parted, transposed};
 use crate::classed_pairs::ClassedPairs;
 use crate::faults::fault;
-use crate::gathering::gather;
+use crate::labels::Labels;
 use crate::sizes::Size;
-use crate::splitting::part;
+use crate::steps::make_step;
 use crate::tallies::Tally;
 use pair_colours::{Colouring, NoMemory};
 use std::alloc::Global;
@@ -24,19 +24,19 @@ use trace_text::Step;
 #[derive(Drop)]
 pub struct Cells {
     pairs: ClassedPairs,
+    labels: Labels,
     tally: Tally,
 }
 
 impl Model for Cells {
     ghost use Rattle.pair_colours.specs.Colouring.{PairColouring};
-    ghost use Rattle.split_cells.specs.Pairs.{partition_of};
-    ghost use Rattle.split_cells.specs.Kept.{IsKept};
+    ghost use Rattle.split_cells.specs.Kept.{IsKept, shown_of};
 
     ghost Value = { PairColouring };
 
-    ghost view = { λ c. partition_of c.pairs };
+    ghost view = { λ c. shown_of c.pairs c.labels };
 
-    ghost invariant = { λ c. IsKept c.pairs c.tally };
+    ghost invariant = { λ c. IsKept c.pairs c.labels c.tally };
 }
 
 impl Cells {
@@ -49,6 +49,7 @@ impl Cells {
         let size = Size::new(alloc, points)?;
         let parting = parted(alloc, colouring.colours())?;
         let turned = transposed(alloc, points, colouring.colours())?;
+        let labels = Labels::new(alloc, points * points)?;
         let tally = Tally::new(alloc, points * points)?;
         Ok(Cells {
             pairs: ClassedPairs {
@@ -56,6 +57,7 @@ impl Cells {
                 parting,
                 turned,
             },
+            labels,
             tally,
         })
     }
@@ -83,7 +85,8 @@ impl Cells {
         ensures class { result ≡ colour_at self.now x y }
         ensures within { IsPartition self.now }
     {
-        self.pairs.parting.class[(x * self.size() + y) as usize]
+        let inner = self.pairs.row(x)[y as usize];
+        self.labels.outer[inner as usize]
     }
 
     /// How many pairs class k has.
@@ -91,7 +94,8 @@ impl Cells {
         requires { k < rank_of self.now }
         ensures { result ≡ count_by (λ colour. colour == k) self.now.colours }
     {
-        self.pairs.parting.members(k).len() as u32
+        let inner = self.labels.inner[k as usize];
+        self.pairs.parting.members(inner).len() as u32
     }
 
     /// Whether a step names numbers of classes.
@@ -114,8 +118,8 @@ impl Cells {
         ensures same { OnFalse result (self.new ≡ self.old) }
         ensures within { IsPartition self.new }
     {
-        let class = gather(&self.pairs, &mut self.tally, step);
-        let split = part(&mut self.pairs, &self.tally, class);
+        let inner = self.labels.inner_step(step);
+        let split = make_step(&mut self.pairs, &mut self.labels, &mut self.tally, inner);
         self.tally.clear();
         split
     }
@@ -126,6 +130,9 @@ impl Cells {
         ensures coherent { IfOk result (λ found. IfNone found (Coherent self.now)) }
         ensures within { IsPartition self.now }
     {
-        fault(alloc, &self.pairs)
+        match fault(alloc, &self.pairs)? {
+            Some(step) => Ok(Some(self.labels.shown_step(step))),
+            None => Ok(None),
+        }
     }
 }

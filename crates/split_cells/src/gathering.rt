@@ -3,14 +3,11 @@
 ghost use Rattle.std.specs.Prelude.{◌≡◌, ◌==◌, ◌*◌, ◌/◌, ◌%◌, ◌<◌, if◌then◌else◌};
 ghost use Rattle.trace_text.specs.declared.step_list.Step.TheVariants.{Diag, Flip};
 ghost use Rattle.split_cells.specs.Pairs.{IsClassed, partition_of};
-ghost use Rattle.split_cells.specs.Keys.{IsBlank, IsGathered, class_of, key_at};
-ghost use Rattle.split_cells.specs.Faults.{NamesBelow};
+ghost use Rattle.split_cells.specs.Keys.{IsBlank, IsGathered, key_at};
 
 use crate::classed_pairs::ClassedPairs;
 use crate::sizes::Size;
 use crate::tallies::Tally;
-use crate::triangle_counts::{Triangle, count_triangles};
-use trace_text::Step;
 
 // Key 1 for the pairs off the diagonal.
 pub(crate) fn diagonal_key(size: &Size, p: u32) -> u32
@@ -25,7 +22,7 @@ pub(crate) fn diagonal_key(size: &Size, p: u32) -> u32
 }
 
 // Key 1 for the pairs of class k off the diagonal.
-fn gather_diagonal(pairs: &ClassedPairs, tally: &mut Tally, k: u32)
+pub(crate) fn gather_diagonal(pairs: &ClassedPairs, tally: &mut Tally, k: u32)
     requires classed { IsClassed pairs.now }
     requires class { k < pairs.now.parting.rank }
     requires blank { IsBlank pairs.now.parting.class.items tally.old.counts }
@@ -44,7 +41,7 @@ fn turned_key(class: u32, other: u32) -> u32
 }
 
 // Key 1 for the pairs of class k whose transposed pair is not in class `other`.
-fn gather_turned(pairs: &ClassedPairs, tally: &mut Tally, k: u32, other: u32)
+pub(crate) fn gather_turned(pairs: &ClassedPairs, tally: &mut Tally, k: u32, other: u32)
     requires classed { IsClassed pairs.now }
     requires class { k < pairs.now.parting.rank }
     requires blank { IsBlank pairs.now.parting.class.items tally.old.counts }
@@ -52,29 +49,5 @@ fn gather_turned(pairs: &ClassedPairs, tally: &mut Tally, k: u32, other: u32)
 {
     for p in pairs.parting.members(k) {
         tally.note(*p, turned_key(pairs.turned[*p as usize], other));
-    }
-}
-
-// The keys of the pairs of the class of a step, and the class.
-pub(crate) fn gather(pairs: &ClassedPairs, tally: &mut Tally, step: Step) -> u32
-    requires classed { IsClassed pairs.now }
-    requires names { NamesBelow pairs.now.parting.rank step }
-    requires blank { IsBlank pairs.now.parting.class.items tally.old.counts }
-    ensures class { result ≡ class_of step }
-    ensures gathered { IsGathered pairs.now.parting.class.items (class_of step) (key_at (partition_of pairs.now) step) tally.new.counts }
-{
-    match step {
-        Step::Diag { class } => {
-            gather_diagonal(pairs, tally, class);
-            class
-        }
-        Step::Flip { class, other } => {
-            gather_turned(pairs, tally, class, other);
-            class
-        }
-        Step::Tri { class, left, right } => {
-            count_triangles(pairs, tally, Triangle { class, left, right });
-            class
-        }
     }
 }

@@ -4,8 +4,11 @@
 //! * `cells`: `Cells`, a partition that carries out steps.
 //! * `faults`: whether a partition is coherent, or else by what it can be split.
 //! * `codes`: short numbers of classes; `code_counts`: how often their sums come.
+//! * `steps`: steps with inner numbers, made on the pairs in classes.
+//! * `labels`: the numbers by which classes are shown, where they have other inner numbers.
 //! * `splitting`: the parts of a class, by the keys of its pairs.
-//! * `gathering`: those keys; `triangle_counts`: those of triangles.
+//! * `gathering`: those keys; `triangle_counts`: those of triangles; `flipping`: the parts by
+//!   transposed classes.
 //! * `building`: classes from the class of each pair.
 //! * `classed_pairs`: `ClassedPairs`, the pairs of points in numbered classes.
 //! * `partings`: `Parting`, numbered classes, each a segment of one list.
@@ -21,10 +24,13 @@ mod classed_pairs;
 mod code_counts;
 mod codes;
 mod faults;
+mod flipping;
 mod gathering;
+mod labels;
 mod partings;
 mod sizes;
 mod splitting;
+mod steps;
 mod tallies;
 mod triangle_counts;
 

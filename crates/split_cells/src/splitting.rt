@@ -92,6 +92,7 @@ pub(crate) fn part(pairs: &mut ClassedPairs, tally: &Tally, k: u32) -> bool
     ensures classed { IsClassed pairs.new }
     ensures size { pairs.new.size ≡ pairs.old.size }
     ensures used { IsUsed pairs.new.parting.class.items pairs.new.parting.rank }
+    ensures rank { pairs.old.parting.rank ≤ pairs.new.parting.rank }
     ensures split { IsTrue result ↔ (2 ≤ length (counts_in pairs.old.size pairs.old.parting.class.items tally.now.counts k)) }
     ensures parts { IsParted pairs.old.size pairs.old.parting.class.items tally.now.counts k pairs.old.parting.rank pairs.new.parting.class.items }
 {

@@ -1,11 +1,11 @@
 -- A search by halves in a rising row.
-use Rattle.std.proofs.Common.{◌≡◌, ◌==◌, ◌&&◌, ltb, ℕ, ◌<◌, ◌≤◌, true, false, List, length, get_or, AllPairs, ◌⊎◌, inl, inr, ⊎_elim, refl, sym, ap, subst, ◌∙◌, arith}
-use Rattle.std.specs.List.Sorted.{IsPartitionedBy, IsPartitionPoint}
+use Rattle.std.proofs.Common.{◌≡◌, ◌==◌, ◌&&◌, ltb, ℕ, ◌<◌, ◌≤◌, true, List, length, get_or, AllPairs, ◌⊎◌, inl, inr, ⊎_elim, refl, sym, ap, subst, ◌∙◌, arith}
+use Rattle.std.specs.List.Sorted.{IsPartitionedBy}
 use Rattle.std.proofs.lemmas.Bool.{cases_lt, cases_order, or_cases, or_left, or_right, and_parts, and_from, ltb-true, lt-ltb, eqb-true, eq-eqb, both_ways}
 use Rattle.std.proofs.lemmas.List.{get_or_default}
 use Rattle.triangle_count.specs.declared.rows.Entry.{Entry}
 use Rattle.triangle_count.specs.Row.{Precedes}
-use Rattle.struct_consts.specs.Lookup.{is_before, IsOf, IsCountIn}
+use Rattle.struct_consts.specs.Lookup.{is_before, IsPlaceIn, IsOf, IsCountIn}
 
 before_from : (left right : ℕ) (e : Entry) → is_before left right e ≡ true → (e.left < left) ⊎ ((e.left ≡ left) × (e.right < right))
 before_from left right e h = ⊎_elim
@@ -38,7 +38,7 @@ not_before_itself left right e o h = ⊎_elim (λ (a : e.left < left). omega (ar
 
 -- the entry of two colours can only stand where the search ends
 only_place : (entries : List Entry) (left right place : ℕ) (d : Entry) → AllPairs Precedes entries
-    → IsPartitionPoint (λ e. is_before left right e ≡ true) (λ e. is_before left right e ≡ false) entries place
+    → IsPlaceIn entries left right place
     → (k : ℕ) → k < length entries → IsOf left right (get_or entries k d) → k ≡ place
 only_place entries left right place d rises point k l o = ⊎_elim
     (λ same. same)
@@ -53,7 +53,7 @@ only_place entries left right place d rises point k l o = ⊎_elim
 
 -- what the search finds
 pub count_found : (entries : List Entry) (left right place : ℕ) (d : Entry) → AllPairs Precedes entries
-    → IsPartitionPoint (λ e. is_before left right e ≡ true) (λ e. is_before left right e ≡ false) entries place
+    → IsPlaceIn entries left right place
     → place < length entries → (get_or entries place d).left ≡ left → (get_or entries place d).right ≡ right → IsCountIn entries left right (get_or entries place d).count
 count_found entries left right place d rises point l left_is right_is = record {
   there = λ k b m o.
@@ -63,7 +63,7 @@ count_found entries left right place d rises point l left_is right_is = record {
 }
 
 pub count_missing : (entries : List Entry) (left right place : ℕ) (d : Entry) → AllPairs Precedes entries
-    → IsPartitionPoint (λ e. is_before left right e ≡ true) (λ e. is_before left right e ≡ false) entries place
+    → IsPlaceIn entries left right place
     → (place < length entries → IsOf left right (get_or entries place d) → ⊥) → IsCountIn entries left right 0
 count_missing entries left right place d rises point fails = record {
   there = λ k b m o.

@@ -1,5 +1,5 @@
 -- A step that is bad.
-use Rattle.std.proofs.Common.{◌≡◌, ℕ, [], ◌∷◌, refl}
+use Rattle.std.proofs.Common.{ℕ, [], ◌∷◌, refl}
 use Rattle.pair_colours.specs.Colouring.{PairColouring}
 use Rattle.trace_text.specs.declared.check_words.CheckWord.TheVariants.{NoSuchClass, IdleStep}
 use Rattle.trace_text.specs.declared.step_list.Step.{Step}

@@ -1,10 +1,8 @@
 use Rattle.std.proofs.Common.{◌≡◌, ◌==◌, ℕ, suc, ◌+◌, ◌-◌, ◌*◌, ◌/◌, ◌%◌, ◌^◌, ◌<◌, ◌≤◌, List, [], ◌∷◌, length, get_or, drop, map, sum_by, refl, sym, ap, subst, ◌∙◌, arith, if◌then◌else◌}
-use Rattle.std.specs.List.{slice_range}
 use Rattle.std.proofs.Math.Nat.{mod-add-mod}
 use Rattle.std.proofs.lemmas.Nat.{mul-le}
-use Rattle.std.proofs.lemmas.Bool.{eq-eqb, ne_eqb}
 use Rattle.std.proofs.lemmas.Bool.Decides.{Decides-eqb, Decides-like, same_from_decides}
-use Rattle.std.proofs.lemmas.List.{get_or_default, get_or-take, get_or-drop, get_or-map, length-take, length-drop, length-map}
+use Rattle.std.proofs.lemmas.List.{get_or-take, get_or-drop, get_or-map, length-take, length-drop, length-map}
 use Rattle.std.proofs.lemmas.List.Sums.{sum_by-cons}
 use Rattle.std.proofs.lemmas.List.Sorted.{sum_by-IsPermutation}
 use Rattle.pair_colours.specs.Colouring.{PairColouring, IsColouring, colour_at, points}
@@ -15,7 +13,7 @@ use Rattle.pair_colours.proofs.Places.{place_below}
 use Rattle.pair_colours.proofs.Rounds.{sides, IsPermutation-sides}
 use Rattle.wl_refine.specs.Splits.{JoinsAlike}
 use Rattle.wl_refine.proofs.Filled.{IsFilled, filled_at}
-use Rattle.wl_refine.specs.Words.{IsTransposed, dot_product, word_of}
+use Rattle.wl_refine.specs.Words.{IsTransposed, dot_product, pair_word, table_row, word_of}
 
 -- a step of the loop of a product
 pub products_more : (xs ys : List ℕ) (z sum a b : ℕ) → sum ≡ sum_by (λ k. get_or xs k 0 * get_or ys k 0) (points z) % 2 ^ 64
@@ -31,42 +29,15 @@ sum_by-map : {X Y : Type 0} (f : Y → ℕ) (g : X → Y) (xs : List X) → sum_
 sum_by-map f g [] = refl
 sum_by-map f g (x ∷ xs) = sum_by-cons f (g x) (map g xs) ∙ ap (λ s. f (g x) + s) (sum_by-map f g xs) ∙ sym (sum_by-cons (λ y. f (g y)) x xs)
 
--- a row of a table
-abbrev pub row_of : List ℕ → ℕ → ℕ → List ℕ
-row_of table n x = slice_range table (x * n) (x * n + n)
-
-row_at : (table : List ℕ) (n x z : ℕ) → z < n → get_or (row_of table n x) z 0 ≡ get_or table (x * n + z) 0
+row_at : (table : List ℕ) (n x z : ℕ) → z < n → get_or (table_row table n x) z 0 ≡ get_or table (x * n + z) 0
 row_at table n x z h =
     get_or-take (x * n + n - x * n) (drop (x * n) table) z 0 (omega (arith, h)) ∙ get_or-drop (x * n) table z 0
 
-length-row_of : (table : List ℕ) (n x : ℕ) → x * n + n ≤ length table → length (row_of table n x) ≡ n
-length-row_of table n x h = omega (arith, length-take (x * n + n - x * n) (drop (x * n) table), length-drop (x * n) table, h)
+length-table_row : (table : List ℕ) (n x : ℕ) → x * n + n ≤ length table → length (table_row table n x) ≡ n
+length-table_row table n x h = omega (arith, length-take (x * n + n - x * n) (drop (x * n) table), length-drop (x * n) table, h)
 
 row_end : (n x : ℕ) → x < n → x * n + n ≤ n * n
 row_end n x h = let l = mul-le (x + 1) n n n (omega (arith, h)) (omega arith) in omega (arith, l)
-
--- the word of a pair, from the words of the colours from each point and of those to each point
-abbrev pub pair_word : ℕ → List ℕ → List ℕ → ℕ → ℕ → ℕ
-pair_word n first second x y =
-    let sides = dot_product (row_of first n x) (row_of second n y) % 2 ^ 64 / 2 ^ 32 in
-    if x == y then sides else (sides + get_or first (y * n + x) 0) % 2 ^ 32
-
--- what the loop computes is that word, from slices f and g of the tables and a number s that is the size
-module _ (n s : ℕ) (first second f g : List ℕ) (x y sides : ℕ) (size : s ≡ n) (e : f ≡ first) (d : g ≡ second)
-    (product : sides ≡ dot_product (row_of f s x) (row_of g s y) % 2 ^ 64) where
-  high : sides / 2 ^ 32 ≡ dot_product (row_of first n x) (row_of second n y) % 2 ^ 64 / 2 ^ 32
-  high = ap (λ k. k / 2 ^ 32) (product ∙ (λ i. dot_product (row_of (e i) (size i) x) (row_of (d i) (size i) y) % 2 ^ 64))
-
-  pub word_on_diagonal : (own : ℕ) → x ≡ y → own ≡ sides / 2 ^ 32 → own ≡ pair_word n first second x y
-  word_on_diagonal own same o =
-      let sum : ℕ = dot_product (row_of first n x) (row_of second n y) % 2 ^ 64 / 2 ^ 32 in
-      o ∙ high ∙ sym (ap (λ b. if b then sum else (sum + get_or first (y * n + x) 0) % 2 ^ 32) (eq-eqb x y same))
-
-  pub word_off_diagonal : (own turned : ℕ) → (x ≡ y → ⊥) → y * n + x < length first → turned ≡ get_or first (y * s + x) turned → own ≡ (sides / 2 ^ 32 + turned) % 2 ^ 32 → own ≡ pair_word n first second x y
-  word_off_diagonal own turned other l t o =
-      let sum : ℕ = dot_product (row_of first n x) (row_of second n y) % 2 ^ 64 / 2 ^ 32 in
-      o ∙ (λ i. (high i + (t ∙ ap (λ m. get_or first (y * m + x) turned) size ∙ get_or_default first (y * n + x) turned 0 l) i) % 2 ^ 32)
-      ∙ sym (ap (λ b. if b then sum else (sum + get_or first (y * n + x) 0) % 2 ^ 32) (ne_eqb x y other))
 
 -- the sum of the words of the sides
 abbrev side_words : (List ℕ) → (List ℕ) → ℕ × ℕ → ℕ
@@ -100,11 +71,11 @@ module _ (P T : PairColouring) (from to first second : List ℕ) (w : AreWords P
 
   -- the product of two rows is a sum over the sides of the triangles on the pair
   products_of_sides : (x y : ℕ) → x < P.size → y < P.size
-      → dot_product (row_of first P.size x) (row_of second P.size y) ≡ sum_by (side_words from to) (sides P x y)
+      → dot_product (table_row first P.size x) (table_row second P.size y) ≡ sum_by (side_words from to) (sides P x y)
   products_of_sides x y hx hy =
-      let row = row_of first P.size x in
-      let column = row_of second P.size y in
-      let long : length row ≡ P.size = length-row_of first P.size x (omega (arith, length_first, row_end P.size x hx)) in
+      let row = table_row first P.size x in
+      let column = table_row second P.size y in
+      let long : length row ≡ P.size = length-table_row first P.size x (omega (arith, length_first, row_end P.size x hx)) in
       ap (λ n. sum_by (λ z. get_or row z 0 * get_or column z 0) (points n)) long
       ∙ sum_by_points_agree (λ z. get_or row z 0 * get_or column z 0) (λ z. side_words from to (colour_at P x z, colour_at P z y)) P.size
       (λ z l i. (row_at first P.size x z l ∙ first_at x z hx l) i * (row_at second P.size y z l ∙ second_at y z hy l) i)

@@ -5,9 +5,10 @@
 //! each split is forced. Two pairs that are not alike may have one word by chance, and then stay
 //! together. Whether that has happened only the exact round can say.
 
-ghost use Rattle.std.specs.Prelude.{◌≡◌, ◌%◌, ◌^◌, IfOk, length, map, vec_len};
+ghost use Rattle.std.specs.Prelude.{◌≡◌, ◌*◌, ◌%◌, ◌^◌, ◌<◌, ◌≤◌, IfOk, length, map, vec_len};
 ghost use Rattle.wl_refine.specs.Splits.{IsPartialRound, JoinsAlike};
-ghost use Rattle.wl_refine.specs.Words.{IsTransposed, dot_product, word_of};
+ghost use Rattle.pair_colours.specs.declared.coloured_pairs.TheConstants.{MOST_POINTS};
+ghost use Rattle.wl_refine.specs.Words.{IsTransposed, dot_product, pair_word, word_of};
 
 use pair_colours::{Colouring, NoMemory};
 use rand_core::{Rng, SeedableRng};
@@ -73,27 +74,40 @@ fn dot(xs: &[u32], ys: &[u32]) -> u64
     sum
 }
 
-// Gives each pair its word, as a colour. Off the diagonal the word of the transposed colour is in it.
+// The word of a pair. Off the diagonal the word of the transposed colour is in it.
+fn pair_word(first: &[u32], second: &[u32], size: u32, x: u32, y: u32) -> u32
+    requires limit { size ≤ MOST_POINTS }
+    requires row { x < size }
+    requires column { y < size }
+    requires first_words { length first.now ≡ size * size }
+    requires second_words { length second.now ≡ size * size }
+    ensures { result ≡ pair_word size first.now second.now x y }
+{
+    let n = size as usize;
+    let row = x as usize * n;
+    let column = y as usize * n;
+    let sides = dot(&first[row..row + n], &second[column..column + n]);
+    let word = (sides >> 32) as u32;
+    if x == y {
+        word
+    } else {
+        word.wrapping_add(first[column + x as usize])
+    }
+}
+
+// Gives each pair its word, as a colour.
 fn hashed(alloc: Global, colouring: &Colouring) -> Result<Colouring, NoMemory>
     ensures { IfOk result (λ hashed. JoinsAlike colouring.now hashed) }
 {
     let size = colouring.size();
-    let n = size as usize;
+    let words = (size * size) as usize;
     let turned = transposed(alloc, colouring)?;
-    let first = worded(alloc, &random_words(alloc, n * n, 1)?, colouring)?;
-    let second = worded(alloc, &random_words(alloc, n * n, 2)?, &turned)?;
+    let first = worded(alloc, &random_words(alloc, words, 1)?, colouring)?;
+    let second = worded(alloc, &random_words(alloc, words, 2)?, &turned)?;
     let mut hashed = Colouring::new(alloc, size, 0)?;
     for x in 0..size {
-        let row = x as usize * n;
         for y in 0..size {
-            let column = y as usize * n;
-            let sides = dot(&first[row..row + n], &second[column..column + n]);
-            let word = (sides >> 32) as u32;
-            let own = if x == y {
-                word
-            } else {
-                word.wrapping_add(first[column + x as usize])
-            };
+            let own = pair_word(&first, &second, size, x, y);
             hashed.set(x, y, own);
         }
     }

@@ -79,14 +79,20 @@ fn cube(rt: HostRuntime) -> Result<(), Fail> {
 }
 
 // The walk meets (0,0), (1,1), (2,2), (0,1), (0,2), (1,0), (1,2), (2,0) and (2,1), so 7 has its first
-// pair at (0,1), where the turned pair has 9. The other colouring parts (0,0) from the rest of the
-// diagonal.
+// pair at (0,1), where the turned pair has 9.
 #[test]
 fn three_points(rt: HostRuntime) -> Result<(), Fail> {
     let colours = Colouring::from_rows(rt.alloc(), &[&[5, 7, 7], &[9, 5, 6], &[9, 6, 5]])?;
     assert_eq!(rt; colours.first_pair(7), Some((0, 1)));
     assert_eq!(rt; colours.transpose_of(7), Some(9));
     assert_eq!(rt; colours.first_pair(4), None);
+    Ok(())
+}
+
+// The other colouring parts (0,0) from the rest of the diagonal.
+#[test]
+fn meet(rt: HostRuntime) -> Result<(), Fail> {
+    let colours = Colouring::from_rows(rt.alloc(), &[&[5, 7, 7], &[9, 5, 6], &[9, 6, 5]])?;
     let other = Colouring::from_rows(rt.alloc(), &[&[0, 1, 1], &[1, 1, 1], &[1, 1, 1]])?;
     let meet = colours.meet(rt.alloc(), &other)?;
     assert_eq!(rt; meet.colours(), [0, 2, 2, 3, 1, 4, 3, 4, 1].as_slice());

@@ -1,4 +1,4 @@
-use Rattle.std.proofs.Common.{ap, sym, subst, arith, sum_by}
+use Rattle.std.proofs.Common.{ap, subst, arith, sum_by}
 use Rattle.trace_text.specs.BadLines.{line_count_of_stage}
 use Rattle.trace_text.proofs.StageLoops.{GoneThrough, gone_more, gone_bad, gone_steps, gone_some, gone_within}
 use Rattle.trace_check.specs.Ends.{ended_of, before_of}

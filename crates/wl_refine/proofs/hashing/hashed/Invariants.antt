@@ -1,6 +1,6 @@
 use Rattle.std.proofs.Common.{◌+◌, ◌*◌}
+use Rattle.wl_refine.specs.Words.{pair_word}
 use Rattle.wl_refine.proofs.Filled.{IsFilled}
-use Rattle.wl_refine.proofs.Hashes.{pair_word}
 use Rattle.wl_refine.proofs.hashing.hashed.Given as goal
 
 abbrev pub invariant-loop-y : goal.invariant-loop-y

@@ -1,52 +1,47 @@
-use Rattle.std.proofs.Common.{◌≡◌, ◌<◌, length, All, ⊎_elim, sym, ap, subst, ◌∙◌, arith}
-use Rattle.std.proofs.lemmas.Bool.{OnFalse_from, cases_lt}
+use Rattle.std.proofs.Common.{◌≡◌, ◌<◌, ◌↔◌, IsTrue, All, sym, ap, subst, ◌∙◌, arith}
+use Rattle.std.proofs.lemmas.Bool.{OnFalse_from}
 use Rattle.pair_colours.specs.Colouring.{PairColouring}
 use Rattle.pair_colours.specs.Naming.{rank_of}
+use Rattle.trace_text.specs.declared.step_list.Step.{Step}
 use Rattle.trace_text.specs.Split.{HasParts, numbers_of, split_of}
-use Rattle.split_cells.specs.Grids.{grid}
-use Rattle.split_cells.specs.Keys.{counts_in}
-use Rattle.split_cells.proofs.CellLemmas.{rank_kept, names_class, parts_kept, split_kept, IsPartition-grid}
-use Rattle.split_cells.proofs.PartLemmas.{IsParted-idle}
+use Rattle.split_cells.specs.Faults.{NamesBelow}
+use Rattle.split_cells.specs.Kept.{shown_of}
+use Rattle.split_cells.proofs.CellLemmas.{split_idle}
+use Rattle.split_cells.proofs.Labelled.{few_classes, names_inner, rank_shown, IsColouring-shown, IsPartition-shown}
 use Rattle.split_cells.proofs.cells.Cells.split.Goals as goal
 
-pub gather-class-requires-clause-names : goal.gather-class-requires-clause-names
-gather-class-requires-clause-names c =
-    subst (λ r. All (λ number. number < r) (numbers_of c.args.step)) (sym (ap rank_of c.self.view_is) ∙ rank_kept c.self.invariant) c.requires
+pub inner_step-inner-requires-clause-names : goal.inner_step-inner-requires-clause-names
+inner_step-inner-requires-clause-names c =
+    let h = c.self.invariant.shown in
+    λ i d l. omega (arith, c.requires i d l, ap rank_of c.self.view_is, rank_shown h, few_classes h, h.numbers.inverse.outer_len)
 
-pub part-split-requires-clause-class : goal.part-split-requires-clause-class
-part-split-requires-clause-class c =
-    omega (arith, names_class (rank_of c.args.self.now) c.args.step c.requires, ap rank_of c.self.view_is, rank_kept c.self.invariant, c.gather-class.ensures.class)
+pub make_step-split-requires-clause-names : goal.make_step-split-requires-clause-names
+make_step-split-requires-clause-names c =
+    let h = c.self.invariant.shown in
+    let step = c.inner_step-inner.result in
+    let rank = c.self.inside.pairs.parting.rank in
+    names_inner h step (subst (λ n. All (λ number. number < n) (numbers_of step)) h.numbers.inverse.outer_len c.inner_step-inner.ensures.names)
+    (subst (λ (s : Step). NamesBelow rank s) (sym c.inner_step-inner.ensures.shown)
+    (subst (λ r. NamesBelow r c.args.step) (sym (ap rank_of c.self.view_is) ∙ rank_shown h) c.requires))
 
 pub returns-clause-parts : goal.returns-clause-parts
 returns-clause-parts c =
-    let n = c.self.inside.pairs.size in
-    let new = c.part-split.new.pairs in
-    ap (λ m. grid m new.parting.class.items) c.part-split.ensures.size
-    ∙ split_kept c.self.invariant c.args.step c.gather-class.result c.gather-class.new.tally.counts new.parting.class.items c.gather-class.ensures.class c.gather-class.ensures.gathered c.part-split.ensures.parts
-    ∙ ap (λ (P : PairColouring). split_of P c.args.step) c.self.view_is
+    c.make_step-split.ensures.parts ∙ ap (split_of (shown_of c.self.inside.pairs c.self.inside.labels)) c.inner_step-inner.ensures.shown ∙ ap (λ (P : PairColouring). split_of P c.args.step) c.self.view_is
 
 pub returns-clause-split : goal.returns-clause-split
 returns-clause-split c =
-    let two = parts_kept c.self.invariant c.args.step c.gather-class.result c.gather-class.new.tally.counts c.part-split.new.pairs.parting.class.items c.gather-class.ensures.class c.gather-class.ensures.gathered in (
-      λ e. subst (λ (P : PairColouring). HasParts P c.args.step) c.self.view_is (two.1 (c.part-split.ensures.split.0 e)),
-      λ some. c.part-split.ensures.split.1 (two.0 (subst (λ (P : PairColouring). HasParts P c.args.step) (sym c.self.view_is) some)),
-    )
+    let P = shown_of c.self.inside.pairs c.self.inside.labels in
+    let r = c.make_step-split.result in
+    subst (λ (Q : PairColouring). IsTrue r ↔ HasParts Q c.args.step) c.self.view_is (subst (λ (s : Step). IsTrue r ↔ HasParts P s) c.inner_step-inner.ensures.shown c.make_step-split.ensures.split)
 
 pub returns-clause-same : goal.returns-clause-same
 returns-clause-same c =
-    let pairs = c.self.inside.pairs in
-    let h = c.self.invariant.classed in
-    let new = c.part-split.new.pairs in
-    let counts = c.gather-class.new.tally.counts in
-    OnFalse_from c.part-split.result (grid new.size new.parting.class.items ≡ c.args.self.now) (λ e.
-    let few : length (counts_in pairs.size pairs.parting.class.items counts c.gather-class.result) < 2 = ⊎_elim
-    (λ few. few)
-    (λ two. let yes = c.part-split.ensures.split.1 two in cc)
-    (cases_lt (length (counts_in pairs.size pairs.parting.class.items counts c.gather-class.result)) 2) in
-    (λ i. grid (c.part-split.ensures.size i) (IsParted-idle pairs.size pairs.parting.class.items (h.parting.classes ∙ h.bound) counts new.parting.class.items c.gather-class.result pairs.parting.rank few c.part-split.ensures.parts i)) ∙ c.self.view_is)
+    let P = shown_of c.self.inside.pairs c.self.inside.labels in
+    let h = c.self.invariant.shown in
+    let made = c.make_step-split.ensures in
+    OnFalse_from c.make_step-split.result (shown_of c.make_step-split.new.pairs c.make_step-split.new.labels ≡ c.args.self.now) (λ e.
+    let none : HasParts P c.args.step → ⊥ = λ some. let yes = made.split.1 (subst (λ (s : Step). HasParts P s) (sym c.inner_step-inner.ensures.shown) some) in cc in
+    made.parts ∙ ap (split_of P) c.inner_step-inner.ensures.shown ∙ sym (split_idle P c.args.step (IsColouring-shown h) none) ∙ c.self.view_is)
 
 pub returns-clause-within : goal.returns-clause-within
-returns-clause-within c =
-    let new = c.part-split.new.pairs in
-    let h = c.part-split.ensures.classed in
-    IsPartition-grid new.size new.parting.class.items new.parting.rank h.some (h.parting.classes ∙ h.bound) (λ p l. h.parting.class_in p (omega (arith, l, h.parting.classes))) c.part-split.ensures.used
+returns-clause-within c = IsPartition-shown c.make_step-split.ensures.shown

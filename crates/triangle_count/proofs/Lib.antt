@@ -1,2 +1,3 @@
 mod Tallies
 pub mod RowLemmas
+pub mod CacheLemmas

@@ -18,3 +18,4 @@ mod Labelled
 mod Marking
 mod Marked
 mod Exchanged
+mod ReadOut

@@ -14,3 +14,4 @@ pub mod Codes
 pub mod CodeCounts
 pub mod FirstPairs
 pub mod Fellows
+pub mod Rows

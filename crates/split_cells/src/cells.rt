@@ -7,14 +7,19 @@ ghost use Rattle.pair_colours.specs.Closure.{Coherent};
 ghost use Rattle.pair_colours.specs.Naming.{named_of, rank_of};
 ghost use Rattle.trace_text.specs.Partition.{IsPartition};
 ghost use Rattle.trace_text.specs.Split.{HasParts, IsAllowed, NamesClasses, split_of};
+ghost use Rattle.split_cells.specs.Rows.{IsRowCopied};
 
 use crate::building::{parted, transposed};
 use crate::classed_pairs::ClassedPairs;
+use crate::comparing::Comparison;
 use crate::faults::fault;
 use crate::labels::Labels;
+use crate::looks::likely_step;
 use crate::sizes::Size;
 use crate::steps::make_step;
 use crate::tallies::Tally;
+use crate::triangle_counts::Triangle;
+use crate::turning::{turned_apart, turned_class};
 use pair_colours::{Colouring, NoMemory};
 use std::alloc::Global;
 use std::marker::Model;
@@ -110,6 +115,29 @@ impl Cells {
         }
     }
 
+    // Gives the pairs from x their classes as colours.
+    fn copy_row(&self, colouring: &mut Colouring, x: u32)
+        requires sizes { colouring.old.size ≡ self.now.size }
+        requires row { x < self.now.size }
+        ensures { IsRowCopied self.now x colouring.old colouring.new }
+    {
+        for y in 0..self.size() {
+            colouring.set(x, y, self.class_at(x, y));
+        }
+    }
+
+    /// The partition as a colouring.
+    pub fn colouring(&self, alloc: Global) -> Result<Colouring, NoMemory>
+        ensures classes { IfOk result (λ colouring. colouring ≡ self.now) }
+        ensures within { IsPartition self.now }
+    {
+        let mut colouring = Colouring::new(alloc, self.pairs.size.points(), 0)?;
+        for x in 0..self.size() {
+            self.copy_row(&mut colouring, x);
+        }
+        Ok(colouring)
+    }
+
     /// Makes a step, and says whether the class had two parts. If not, nothing has changed.
     pub fn split(&mut self, step: Step) -> bool
         requires { NamesClasses self.old step }
@@ -122,6 +150,62 @@ impl Cells {
         let split = make_step(&mut self.pairs, &mut self.labels, &mut self.tally, inner);
         self.tally.clear();
         split
+    }
+
+    // The triangle step with the numbers by which classes are shown.
+    fn shown_triangle(&self, t: Triangle) -> Option<Step> {
+        Some(Step::Tri {
+            class: *self.labels.outer.get(t.class as usize)?,
+            left: *self.labels.outer.get(t.left as usize)?,
+            right: *self.labels.outer.get(t.right as usize)?,
+        })
+    }
+
+    /// A step on class k that a look at a few points suggests, and that does not take long. It serves
+    /// a search: nothing is promised of it.
+    pub fn likely_step(&self, k: u32, seed: u32) -> Option<Step>
+        requires { k < rank_of self.now }
+    {
+        let inner = self.labels.inner[k as usize];
+        self.shown_triangle(likely_step(&self.pairs, inner, seed)?)
+    }
+
+    /// Room for `odd_step`.
+    pub fn comparison(&self, alloc: Global) -> Result<Comparison, NoMemory> {
+        Comparison::new(alloc, self.pairs.size.points())
+    }
+
+    /// A step that parts a pair of class k from its first pair, if the two differ in how often two
+    /// classes stand over a point. It serves a search: nothing is promised of it.
+    pub fn odd_step(&self, k: u32, comparison: &mut Comparison) -> Option<Step>
+        requires { k < rank_of self.now }
+    {
+        let inner = self.labels.inner[k as usize];
+        self.shown_triangle(comparison.step(&self.pairs, inner)?)
+    }
+
+    /// A step that parts class k by a class that has some of its transposed pairs. It serves a
+    /// search: nothing is promised of it.
+    pub fn flip_step(&self, k: u32) -> Option<Step>
+        requires { k < rank_of self.now }
+    {
+        let inner = self.labels.inner[k as usize];
+        let other = turned_apart(&self.pairs, inner)?;
+        Some(Step::Flip {
+            class: k,
+            other: *self.labels.outer.get(other as usize)?,
+        })
+    }
+
+    /// The class of a transposed pair of class k. It serves a search: nothing is promised of it.
+    pub fn turned_class(&self, k: u32) -> Option<u32>
+        requires { k < rank_of self.now }
+    {
+        let inner = self.labels.inner[k as usize];
+        self.labels
+            .outer
+            .get(turned_class(&self.pairs, inner) as usize)
+            .copied()
     }
 
     /// A step that is not idle; none where the partition is coherent.

@@ -3,6 +3,8 @@
 //!
 //! * `cells`: `Cells`, a partition that carries out steps.
 //! * `faults`: whether a partition is coherent, or else by what it can be split.
+//! * `looks`, `comparing`, `turning`: steps for a search, which nothing is promised of; `sides`: the
+//!   rows of classes at a pair.
 //! * `codes`: short numbers of classes; `code_counts`: how often their sums come.
 //! * `steps`: steps with inner numbers, made on the pairs in classes.
 //! * `labels`: the numbers by which classes are shown, where they have other inner numbers.
@@ -23,18 +25,23 @@ mod cells;
 mod classed_pairs;
 mod code_counts;
 mod codes;
+mod comparing;
 mod faults;
 mod flipping;
 mod gathering;
 mod labels;
+mod looks;
 mod partings;
+mod sides;
 mod sizes;
 mod splitting;
 mod steps;
 mod tallies;
 mod triangle_counts;
+mod turning;
 
 pub use cells::Cells;
+pub use comparing::Comparison;
 
 #[cfg(test)]
 mod tests;

@@ -1,4 +1,3 @@
-mod ReadOut
 mod Steps
 mod Coherence
 mod Judged

@@ -5,7 +5,6 @@ ghost use Rattle.pair_colours.specs.Closure.{Coherent};
 ghost use Rattle.pair_colours.specs.Naming.{named_of};
 ghost use Rattle.trace_check.specs.Ends.{EndFails};
 
-use crate::partitions::read_out;
 use pair_colours::{Colouring, NoMemory};
 use split_cells::Cells;
 use std::alloc::Global;
@@ -33,7 +32,7 @@ fn is_naming(alloc: Global, cells: &Cells, colouring: &Colouring) -> Result<bool
     if colouring.size() != cells.size() {
         return Ok(false);
     }
-    let partition = read_out(alloc, cells, colouring)?;
+    let partition = cells.colouring(alloc)?;
     let named = partition.named(alloc)?;
     Ok(is_same(colouring, &named))
 }

@@ -3,7 +3,7 @@
 //!
 //! * `verdicts`: `Verdict`, what there is to say of a claim.
 //! * `replaying`: a stage gone through step by step, on one partition that is split in place.
-//! * `partitions`: where a stage starts, and a partition read out as a colouring.
+//! * `partitions`: where a stage starts.
 //! * `ending`: whether the last partition shows the claimed closure.
 //! * `checking`: `check`, over all of these.
 //!

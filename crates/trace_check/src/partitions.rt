@@ -1,42 +1,13 @@
-//! Where stages start, and partitions read out as colourings.
+//! Where stages start.
 
-ghost use Rattle.std.specs.Prelude.{◌≡◌, ℕ, ◌<◌, IfOk};
-ghost use Rattle.pair_colours.specs.Colouring.{IsColouring, colour_at};
+ghost use Rattle.std.specs.Prelude.{◌≡◌, IfOk};
+ghost use Rattle.pair_colours.specs.Colouring.{IsColouring};
 ghost use Rattle.pair_colours.specs.Naming.{named_of};
-ghost use Rattle.trace_text.specs.Partition.{IsPartition, meet_of};
-ghost use Rattle.trace_check.specs.Rows.{IsRowCopied};
+ghost use Rattle.trace_text.specs.Partition.{meet_of};
 
 use pair_colours::{Colouring, NoMemory};
 use split_cells::Cells;
 use std::alloc::Global;
-
-// Gives the pairs from x their classes as colours.
-fn copy_row(colouring: &mut Colouring, cells: &Cells, x: u32)
-    requires sizes { colouring.old.size ≡ cells.now.size }
-    requires row { x < cells.now.size }
-    ensures { IsRowCopied cells.now x colouring.old colouring.new }
-{
-    for y in 0..cells.size() {
-        colouring.set(x, y, cells.class_at(x, y));
-    }
-}
-
-// The partition as a colouring, written over a copy of one of as many points.
-pub(crate) fn read_out(
-    alloc: Global,
-    cells: &Cells,
-    other: &Colouring,
-) -> Result<Colouring, NoMemory>
-    requires { other.now.size ≡ cells.now.size }
-    ensures classes { IfOk result (λ partition. partition ≡ cells.now) }
-    ensures within { IfOk result (λ _. IsPartition cells.now) }
-{
-    let mut partition = other.copy(alloc)?;
-    for x in 0..cells.size() {
-        copy_row(&mut partition, cells, x);
-    }
-    Ok(partition)
-}
 
 // Where a first stage of these colours starts.
 pub(crate) fn first_start(alloc: Global, colours: &Colouring) -> Result<Cells, NoMemory>
@@ -57,7 +28,7 @@ pub(crate) fn later_start(
     requires sizes { colours.now.size ≡ partition.now.size }
     ensures { IfOk result (λ cells. cells ≡ meet_of colours.now partition.now) }
 {
-    let partition = read_out(alloc, partition, colours)?;
+    let partition = partition.colouring(alloc)?;
     let meet = colours.meet(alloc, &partition)?;
     Cells::of(alloc, &meet)
 }

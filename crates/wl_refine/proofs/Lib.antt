@@ -1,7 +1,3 @@
-mod Sorting
-mod Codes
-mod Numbers
-mod Filled
-mod Hashes
-mod Transposes
-mod Steps
+mod Leading
+mod Reached
+mod Forced

@@ -1,3 +1,2 @@
-pub mod Signature
-pub mod Splits
-pub mod Words
+pub mod Closed
+pub mod Way

@@ -1,49 +1,66 @@
-//! The closure of a colouring, by rounds until none splits a class.
+//! The closure of a colouring, with the steps that lead to it.
 
-ghost use Rattle.std.specs.Prelude.{◌≡◌, IfOk, IfSome, IfNone};
-ghost use Rattle.pair_colours.specs.Closure.{Coherent, IsClosure, IsClosureOf};
-ghost use Rattle.wl_refine.specs.Splits.{IsSplit};
+ghost use Rattle.std.specs.Prelude.{◌≡◌, IfOk};
+ghost use Rattle.pair_colours.specs.Closure.{IsClosureOf};
+ghost use Rattle.pair_colours.specs.Naming.{named_of};
+ghost use Rattle.wl_refine.specs.Closed.{IsForced, IsReached, IsReachedFromMeet};
 
-use crate::hashing::hashed_round;
-use crate::signatures::exact_round;
+use crate::finishing::finish;
+use crate::ways::Way;
 use pair_colours::{Colouring, NoMemory};
+use split_cells::Cells;
 use std::alloc::Global;
+use trace_text::Steps;
 
-// A colouring that splits classes of this one; none where this one is coherent. The hashed round is
-// by far the faster, and the exact one decides where it finds nothing.
-fn split(alloc: Global, colouring: &Colouring) -> Result<Option<Colouring>, NoMemory>
-    ensures split { IfOk result (λ next. IfSome next (λ next. IsSplit colouring.now next)) }
-    ensures coherent { IfOk result (λ next. IfNone next (Coherent colouring.now)) }
-{
-    let hashed = hashed_round(alloc, colouring)?;
-    if !colouring.refines(alloc, &hashed)? {
-        return Ok(Some(hashed));
-    }
-    let exact = exact_round(alloc, colouring)?;
-    if !colouring.refines(alloc, &exact)? {
-        return Ok(Some(exact));
-    }
-    Ok(None)
+/// A closure, and how it was reached.
+#[derive(Drop)]
+pub struct Closed {
+    /// The closure: its colours are named in the order of the naming walk.
+    pub matrix: Colouring,
+    /// The same classes, with the numbers that the steps gave them.
+    pub last: Colouring,
+    /// The steps, none of them idle.
+    pub steps: Steps,
 }
 
-// The coarsest coherent colouring that refines this one, in whatever numbers it comes out.
-fn stable(alloc: Global, raw: &Colouring) -> Result<Colouring, NoMemory>
-    ensures { IfOk result (λ closure. IsClosure closure raw.now) }
+// What is reached from a partition.
+fn reached(alloc: Global, start: Cells) -> Result<Closed, NoMemory>
+    ensures { IfOk result (IsReached start) }
 {
-    let mut current = raw.copy(alloc)?;
-    loop {
-        match split(alloc, &current)? {
-            Some(next) => current = next,
-            None => return Ok(current),
-        }
-    }
+    let mut way = Way::from(alloc, start);
+    finish(alloc, &mut way)?;
+    let last = way.cells().colouring(alloc)?;
+    let matrix = last.named(alloc)?;
+    Ok(Closed {
+        matrix,
+        last,
+        steps: way.into_steps(),
+    })
 }
 
-/// The closure of a colouring: the coarsest coherent configuration that refines it, with its
-/// colours named in the order of the naming walk (Weisfeiler and Leman, 1968).
-pub fn close_matrix(alloc: Global, raw: &Colouring) -> Result<Colouring, NoMemory>
-    ensures { IfOk result (λ closed. IsClosureOf closed raw.now) }
+/// The closure of a colouring: the coarsest coherent configuration that refines it (Weisfeiler and
+/// Leman, 1968), with steps that lead to it from the naming of the colouring.
+pub fn close(alloc: Global, raw: &Colouring) -> Result<Closed, NoMemory>
+    ensures closure { IfOk result (λ closed. IsClosureOf closed.matrix raw.now) }
+    ensures reached { IfOk result (IsReached (named_of raw.now)) }
 {
-    let closure = stable(alloc, raw)?;
-    closure.named(alloc)
+    let _size = raw.size();
+    let named = raw.named(alloc)?;
+    let start = Cells::of(alloc, &named)?;
+    reached(alloc, start)
+}
+
+/// The same closure, with steps that lead to it from the named meet of the colouring and another,
+/// which parts no pairs that the closure leaves together: where a closure of a coarser colouring
+/// ended, say.
+pub fn close_from(alloc: Global, raw: &Colouring, last: &Colouring) -> Result<Closed, NoMemory>
+    requires sizes { last.now.size ≡ raw.now.size }
+    requires forced { IsForced raw.now last.now }
+    ensures closure { IfOk result (λ closed. IsClosureOf closed.matrix raw.now) }
+    ensures reached { IfOk result (IsReachedFromMeet raw.now last.now) }
+{
+    let _size = raw.size();
+    let meet = raw.meet(alloc, last)?;
+    let start = Cells::of(alloc, &meet)?;
+    reached(alloc, start)
 }

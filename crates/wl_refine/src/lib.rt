@@ -1,15 +1,17 @@
-//! The closure of a colouring, by Weisfeiler-Leman refinement.
+//! The closure of a colouring, by Weisfeiler-Leman refinement, with the steps that lead to it.
 //!
-//! * `closing`: `close_matrix`, rounds until none splits a class.
-//! * `hashing`: the rounds that do most of the work. Each pair gets a pseudo-random word, and pairs
-//!   of one class and two words are parted.
-//! * `signatures`: the exact round. Only it can say that a colouring is coherent.
+//! * `closing`: `close` and `close_from`, over all of these.
+//! * `finishing`: steps up to a coherent partition.
+//! * `searching`: most of the steps, found by guesses and comparisons.
+//! * `ways`: `Way`, a partition and the steps that made it.
 #![tactic(auto)]
 
 mod closing;
-mod hashing;
-mod signatures;
+mod finishing;
+mod searching;
+mod ways;
+
+pub use closing::{Closed, close, close_from};
+
 #[cfg(test)]
 mod tests;
-
-pub use closing::close_matrix;

@@ -1,0 +1,59 @@
+-- What steps up to a coherent partition reach.
+use Rattle.std.proofs.Common.{◌≡◌, sym, subst, ap, arith, ◌∙◌}
+use Rattle.pair_colours.specs.Colouring.{PairColouring, IsColouring}
+use Rattle.pair_colours.specs.Closure.{Coherent, IsClosureOf}
+use Rattle.pair_colours.specs.Naming.{named_of, rank_of, IsNamedMeet}
+use Rattle.pair_colours.proofs.Closures.{IsClosureOf-named_of, refines-named_of, named_of-refines, named_of-named_of}
+use Rattle.pair_colours.proofs.Places.{Refines-trans}
+use Rattle.trace_text.specs.Partition.{IsPartition}
+use Rattle.trace_text.specs.Split.{Lead}
+use Rattle.trace_text.proofs.Leads.{lead_below}
+use Rattle.trace_text.proofs.Meeting.{meet_below}
+use Rattle.trace_text.proofs.Partitions.{IsPartition-named_of, rank_of-named_of}
+use Rattle.trace_text.proofs.Stages.{IsBetween}
+use Rattle.wl_refine.specs.declared.closing.Closed.{Closed}
+use Rattle.wl_refine.specs.Closed.{IsReached, IsForced}
+
+-- a naming is named already
+pub named_again : (C N : PairColouring) → IsColouring C → N ≡ named_of C → named_of N ≡ N
+named_again C N c e = ap named_of e ∙ named_of-named_of C c ∙ sym e
+
+-- the naming of a colouring is between it and its closure
+pub IsBetween-named_of : (C : PairColouring) → IsColouring C → IsBetween C (named_of C)
+IsBetween-named_of C c = record {
+  colours = c;
+  partition = IsPartition-named_of C c;
+  refines = named_of-refines C c;
+  keeps = λ Q q h r. Refines-trans Q C (named_of C) r (refines-named_of C c);
+}
+
+-- and so is the meet with a colouring that parts no pairs of the closure
+pub IsBetween-meet : (C E M : PairColouring) → IsColouring C → IsForced C E → IsNamedMeet C E M → IsBetween C M
+IsBetween-meet C E M c f m = record {
+  colours = c;
+  partition = subst IsPartition m.named (IsPartition-named_of M m.colouring);
+  refines = m.first;
+  keeps = λ Q q h r. meet_below Q C E M m r (f Q q h r);
+}
+
+-- what is reached from between is the closure
+pub IsClosureOf-reached : (C start : PairColouring) (closed : Closed) → IsBetween C start → IsReached start closed → IsClosureOf closed.matrix C
+IsClosureOf-reached C start closed b r =
+    let below = lead_below closed.steps start closed.last b.partition r.leads in
+    subst (λ K. IsClosureOf K C) (sym r.names) (IsClosureOf-named_of closed.last C (record {
+      colouring = below.partition.colouring;
+      coherent = r.coherent;
+      refines = Refines-trans closed.last start C below.refines b.refines;
+      coarsest = λ Q q h s. below.keeps Q q h (b.keeps Q q h s);
+    }))
+
+pub IsReached-from : (start : PairColouring) (closed : Closed) → IsPartition start → Lead closed.steps start closed.last → Coherent closed.last
+    → closed.matrix ≡ named_of closed.last → IsReached start closed
+IsReached-from start closed h l c n =
+    let below = lead_below closed.steps start closed.last h l in
+    record {
+      leads = l;
+      coherent = c;
+      names = n;
+      few = omega (arith, below.rank, rank_of-named_of closed.last below.partition.colouring, ap rank_of n);
+    }

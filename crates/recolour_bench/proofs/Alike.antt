@@ -1,43 +1,71 @@
 -- Alike histories refuse alike and accept alike, and no move is both accepted and refused.
-use Rattle.std.proofs.Common.{◌≡◌, ◌==◌, ⊎_elim, ◌+◌, ◌++◌, List, [], ◌∷◌, length, get_or, map, take, Some, None, sym, ap, subst, ◌∙◌, arith}
+use Rattle.std.proofs.Common.{◌≡◌, ◌==◌, ⊎_elim, ◌+◌, ◌++◌, List, [], ◌∷◌, length, get_or, map, take, Some, None, refl, sym, ap, subst, ◌∙◌, arith}
 use Rattle.std.proofs.lemmas.List.{length-map, get_or-map, map-append, take-map}
-use Rattle.pair_colours.specs.Colouring.{PairColouring}
+use Rattle.pair_colours.specs.Colouring.{PairColouring, Refines}
 use Rattle.pair_colours.specs.Closure.{IsClosureOf}
 use Rattle.pair_colours.specs.Tests.{first_that_holds}
 use Rattle.pair_colours.proofs.LawProofs.{named_closure_is_unique}
+use Rattle.trace_text.specs.declared.stage_list.Stage.{Stage}
+use Rattle.trace_text.proofs.Decided.{refines_or_not}
 use Rattle.recolour_bench.specs.declared.edits.EditFault.TheVariants.{HistoryFull}
 use Rattle.recolour_bench.specs.declared.history.TheConstants.{MOST_POSITION}
 use Rattle.recolour_bench.specs.Edits.{Edit}
 use Rattle.recolour_bench.specs.Recolouring.{edited}
-use Rattle.recolour_bench.specs.History.{Entry, History, IsHistory, AreAlike, no_entry, present, colourings_of}
+use Rattle.recolour_bench.specs.EntryChains.{IsChainOf}
+use Rattle.recolour_bench.specs.History.{Entry, History, IsHistory, IsEntryAfter, AreAlike, no_entry, entry_at, present, colourings_of, stage_colours}
 use Rattle.recolour_bench.specs.Steps.{Move, edits, undoes, redoes, edit_tests, edit_refusal, EditStep, Accepts}
-use Rattle.recolour_bench.specs.Law.{StartIsUnique, StepIsUnique, NotBoth, RefusalIsUnique, RefusalIsAlike, PresentIsUnique}
+use Rattle.recolour_bench.specs.Law.{StartIsUnique, StepIsUnique, NotBoth, RefusalIsUnique, RefusalIsAlike, PresentIsUnique, ChainIsUnique}
 use Rattle.recolour_bench.proofs.Stepping.{present_is_raw}
 
-colouring_of : Entry → PairColouring
-colouring_of entry = entry.colouring
+-- the colours of the stages of an entry
+abbrev colours_of : Entry → List PairColouring
+colours_of entry = stage_colours entry.chain
 
 AreAlike-sym : (h k : History) → AreAlike h k → AreAlike k h
-AreAlike-sym h k alike = record { position = sym alike.position; colourings = sym alike.colourings }
+AreAlike-sym h k alike = record { position = sym alike.position; colourings = sym alike.colourings; chains = sym alike.chains }
 
 -- alike histories are of one length
 alike-length : (h k : History) → AreAlike h k → length h.entries ≡ length k.entries
 alike-length h k alike = sym (length-map h.entries (λ entry. entry.colouring)) ∙ ap length alike.colourings ∙ length-map k.entries (λ entry. entry.colouring)
 
+-- the stages of two chains after alike ones have the same colours
+colours_after : (C D : PairColouring) (before other chain more : List Stage) → C ≡ D → stage_colours before ≡ stage_colours other → IsChainOf C before chain → IsChainOf D other more
+    → stage_colours chain ≡ stage_colours more
+colours_after C D before other chain more e same c d =
+    ap stage_colours c.stages ∙ map-append (λ (stage : Stage). stage.colours) before (c.stage ∷ [])
+    ∙ (λ i. same i ++ (c.colours ∙ e ∙ sym d.colours) i ∷ [])
+    ∙ sym (ap stage_colours d.stages ∙ map-append (λ (stage : Stage). stage.colours) other (d.stage ∷ []))
+
 pub start_is_unique : StartIsUnique
 start_is_unique C h k s t = record {
   position = s.position ∙ sym t.position;
-  colourings = ap colourings s.entries ∙ ap (λ D. D ∷ []) (s.first.colouring ∙ sym t.first.colouring) ∙ sym (ap colourings t.entries);
+  colourings = ap (map (λ entry. entry.colouring)) s.entries ∙ ap (λ D. D ∷ []) (s.first.colouring ∙ sym t.first.colouring) ∙ sym (ap (map (λ entry. entry.colouring)) t.entries);
+  chains =
+      ap (map colours_of) s.entries
+      ∙ ap (λ colours. colours ∷ []) (colours_after C C [] [] s.entry.chain t.entry.chain refl refl s.first.chain t.first.chain)
+      ∙ sym (ap (map colours_of) t.entries);
 }
-  where
-    colourings : List Entry → List PairColouring
-    colourings = map (λ entry. entry.colouring)
 
 pub present_is_unique : PresentIsUnique
 present_is_unique h k is alike =
     sym (get_or-map (λ (entry : Entry). entry.colouring) h.entries h.position no_entry no_entry.colouring is.inside)
     ∙ (λ i. get_or (alike.colourings i) (alike.position i) no_entry.colouring)
     ∙ get_or-map (λ (entry : Entry). entry.colouring) k.entries k.position no_entry no_entry.colouring (omega (arith, is.inside, alike.position, alike-length h k alike))
+
+pub chain_is_unique : ChainIsUnique
+chain_is_unique h k is alike =
+    sym (get_or-map colours_of h.entries h.position no_entry [] is.inside)
+    ∙ (λ i. get_or (alike.chains i) (alike.position i) [])
+    ∙ get_or-map colours_of k.entries k.position no_entry [] (omega (arith, is.inside, alike.position, alike-length h k alike))
+
+-- entries after alike ones have stages of the same colours
+after_alike : (before other entry more : Entry) (C D : PairColouring) → C ≡ D → before.colouring ≡ other.colouring → colours_of before ≡ colours_of other
+    → IsEntryAfter before C entry → IsEntryAfter other D more → colours_of entry ≡ colours_of more
+after_alike before other entry more C D e present chains a b = ⊎_elim
+    (λ r. colours_after C D before.chain other.chain entry.chain more.chain e chains (a.goes_on r) (b.goes_on (subst (λ E. Refines E other.colouring) e (subst (Refines C) present r))))
+    (λ not. colours_after C D [] [] entry.chain more.chain e refl (a.starts not)
+    (b.starts (λ r. not (subst (Refines C) (sym present) (subst (λ E. Refines E other.colouring) (sym e) r)))))
+    (refines_or_not C before.colouring)
 
 -- the closure of the present colouring is the only one
 closure_is_one : (h : History) (K L : PairColouring) → IsHistory h → IsClosureOf K (present h) → IsClosureOf L (present h) → K ≡ L
@@ -74,6 +102,13 @@ colourings-edited h e K h2 s =
     ap (map (λ entry. entry.colouring)) s.entries ∙ map-append (λ (entry : Entry). entry.colouring) (take (h.position + 1) h.entries) (s.entry ∷ [])
     ∙ (λ i. sym (take-map (λ (entry : Entry). entry.colouring) (h.position + 1) h.entries) i ++ s.made.colouring i ∷ [])
 
+-- the colours of the stages after an edit
+colours-edited : (h : History) (e : Edit) (K : PairColouring) (h2 : History) → (s : EditStep h e K h2)
+    → map colours_of h2.entries ≡ take (h.position + 1) (map colours_of h.entries) ++ colours_of s.entry ∷ []
+colours-edited h e K h2 s =
+    ap (map colours_of) s.entries ∙ map-append colours_of (take (h.position + 1) h.entries) (s.entry ∷ [])
+    ∙ ap (λ lists. lists ++ colours_of s.entry ∷ []) (sym (take-map colours_of (h.position + 1) h.entries))
+
 -- what a move makes of alike histories is alike
 accepts_alike : (h k : History) (move : Move) (h2 k2 : History) → IsHistory h → AreAlike h k → Accepts h move h2 → Accepts k move k2 → AreAlike h2 k2
 accepts_alike h k (edits e) h2 k2 is alike a b =
@@ -85,14 +120,21 @@ accepts_alike h k (edits e) h2 k2 is alike a b =
           colourings-edited h e a.0 h2 a.1
           ∙ (λ i. take (alike.position i + 1) (alike.colourings i) ++ edited (same i) (one i) e ∷ [])
           ∙ sym (colourings-edited k e b.0 k2 b.1);
+      chains =
+          colours-edited h e a.0 h2 a.1
+          ∙ (λ i. take (alike.position i + 1) (alike.chains i)
+          ++ after_alike (entry_at h) (entry_at k) a.1.entry b.1.entry (edited (present h) a.0 e) (edited (present k) b.0 e) (λ j. edited (same j) (one j) e) same (chain_is_unique h k is alike) a.1.made b.1.made i ∷ [])
+          ∙ sym (colours-edited k e b.0 k2 b.1);
     }
 accepts_alike h k undoes h2 k2 is alike a b = record {
   position = omega (arith, a.position, b.position, alike.position);
   colourings = ap (map (λ entry. entry.colouring)) a.entries ∙ alike.colourings ∙ sym (ap (map (λ entry. entry.colouring)) b.entries);
+  chains = ap (map colours_of) a.entries ∙ alike.chains ∙ sym (ap (map colours_of) b.entries);
 }
 accepts_alike h k redoes h2 k2 is alike a b = record {
   position = omega (arith, a.position, b.position, alike.position);
   colourings = ap (map (λ entry. entry.colouring)) a.entries ∙ alike.colourings ∙ sym (ap (map (λ entry. entry.colouring)) b.entries);
+  chains = ap (map colours_of) a.entries ∙ alike.chains ∙ sym (ap (map colours_of) b.entries);
 }
 
 pub step_is_unique : StepIsUnique

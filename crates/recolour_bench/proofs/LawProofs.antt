@@ -1,8 +1,9 @@
 -- The laws of this crate, for the proofs of crates above.
 use Rattle.std.proofs.Common.{refl}
-use Rattle.recolour_bench.specs.Law.{StartExists, StartIsHistory, StartIsUnique, StepExists, StepKeeps, StepIsUnique, NotBoth, RefusalIsUnique, RefusalIsAlike, PresentIsRaw, PresentIsUnique, FixTakesLeast, MostPosition}
+use Rattle.recolour_bench.specs.Law.{StartExists, StartIsHistory, StartIsUnique, StepExists, StepKeeps, StepIsUnique, NotBoth, RefusalIsUnique, RefusalIsAlike, PresentIsRaw, PresentIsUnique, ChainsAreAccepted, ChainsAreShort, ChainsAreRaw, ChainTextsFit, ChainIsUnique, FixTakesLeast, MostPosition}
 use Rattle.recolour_bench.proofs.Stepping as stepping
 use Rattle.recolour_bench.proofs.Alike as alike
+use Rattle.recolour_bench.proofs.Showing as showing
 use Rattle.recolour_bench.proofs.Unused.{IsLeastUnused-least_unused}
 
 pub start_exists : StartExists
@@ -37,6 +38,21 @@ present_is_raw = stepping.present_is_raw
 
 pub present_is_unique : PresentIsUnique
 present_is_unique = alike.present_is_unique
+
+pub chains_are_accepted : ChainsAreAccepted
+chains_are_accepted = showing.chains_are_accepted
+
+pub chains_are_short : ChainsAreShort
+chains_are_short = showing.chains_are_short
+
+pub chains_are_raw : ChainsAreRaw
+chains_are_raw = showing.chains_are_raw
+
+pub chain_texts_fit : ChainTextsFit
+chain_texts_fit = showing.chain_texts_fit
+
+pub chain_is_unique : ChainIsUnique
+chain_is_unique = alike.chain_is_unique
 
 pub fix_takes_least : FixTakesLeast
 fix_takes_least C is = IsLeastUnused-least_unused C is.fits.colouring

@@ -29,6 +29,22 @@ first_that_holds-append (test ∷ tests) more h =
     let again = first_that_holds-append tests more parts.1 in
     (ap (λ b. cond b (Some test.1) (first_that_holds tests)) parts.0 ∙ again.0, again.1)
 
+-- the first that holds of two lists is that of the first list, and where there is none that of the second
+pub first_that_holds-some : {X : Type 0} (tests more : List (Bool × X)) (fault : X) → first_that_holds tests ≡ Some fault → first_that_holds (tests ++ more) ≡ Some fault
+first_that_holds-some [] more fault h = cc
+first_that_holds-some (test ∷ tests) more fault h = by test.0 h (first_that_holds-some tests more fault)
+  where
+    by : (b : Bool) → cond b (Some test.1) (first_that_holds tests) ≡ Some fault → (first_that_holds tests ≡ Some fault → first_that_holds (tests ++ more) ≡ Some fault)
+        → cond b (Some test.1) (first_that_holds (tests ++ more)) ≡ Some fault
+    by true h again = h
+    by false h again = again h
+
+pub first_that_holds-after : {X : Type 0} (tests more : List (Bool × X)) → first_that_holds tests ≡ None → first_that_holds (tests ++ more) ≡ first_that_holds more
+first_that_holds-after [] more h = refl
+first_that_holds-after (test ∷ tests) more h =
+    let parts = first_that_holds-none test.0 test.1 tests h in
+    ap (λ b. cond b (Some test.1) (first_that_holds (tests ++ more))) parts.0 ∙ first_that_holds-after tests more parts.1
+
 -- a colouring with colours of raw size on the same points
 pub IsRawColouring-recoloured : (C : PairColouring) (f : ℕ → ℕ → ℕ) → IsRawColouring C → ((u v : ℕ) → u < C.size → v < C.size → f u v ≤ MOST_COLOUR)
     → IsRawColouring (recoloured C f)

@@ -12,25 +12,23 @@ use Rattle.recolour_bench.specs.declared.edits.EditFault.TheVariants.{HistoryFul
 use Rattle.recolour_bench.specs.declared.history.TheConstants.{MOST_POSITION}
 use Rattle.recolour_bench.specs.Edits.{Edit}
 use Rattle.recolour_bench.specs.Recolouring.{edited}
-use Rattle.recolour_bench.specs.History.{Entry, History, IsHistory, no_entry, present}
+use Rattle.recolour_bench.specs.History.{History, IsHistory, IsFirstEntry, AreEntries, no_entry, entry_at, present}
 use Rattle.recolour_bench.specs.Steps.{Move, edits, undoes, redoes, edit_tests, edit_refusal, EditStep, UndoStep, RedoStep, Accepts, Step}
 use Rattle.recolour_bench.specs.Law.{StartExists, StartIsHistory, StepExists, StepKeeps, PresentIsRaw}
+use Rattle.recolour_bench.proofs.Chains.{IsRawEntry, sound_at, first_exists, after_exists, AreEntries-push}
 use Rattle.recolour_bench.proofs.RawEdits.{first_that_holds-none, first_that_holds-append, IsRawColouring-edited}
-
--- the entry's colouring is within the limits
-abbrev IsRawEntry : Entry → Type 0
-IsRawEntry entry = IsRawColouring entry.colouring
 
 pub start_exists : StartExists
 start_exists C c =
-    let entry : Entry = record { colouring = C } in
-    (record { entries = entry ∷ []; position = 0 }, record { entry = entry; first = record { colouring = refl }; entries = refl; position = refl })
+    let first = first_exists C c.fits.colouring in
+    (record { entries = first.0 ∷ []; position = 0 }, record { entry = first.0; first = first.1; entries = refl; position = refl })
 
 pub start_is_history : StartIsHistory
 start_is_history C h c s = record {
   inside = omega (arith, s.position, ap length s.entries);
   few = omega (arith, ap length s.entries);
   within = subst (All IsRawEntry) (sym s.entries) (All-cons IsRawEntry s.entry [] (subst IsRawColouring (sym s.first.colouring) c) (All-nil IsRawEntry));
+  chains = subst AreEntries (sym s.entries) (subst (λ D. IsFirstEntry D s.entry) (sym s.first.colouring) s.first, tt);
 }
 
 pub present_is_raw : PresentIsRaw
@@ -53,6 +51,7 @@ IsHistory-edited h e K h2 is s = record {
       subst (All IsRawEntry) (sym s.entries)
       (All-push IsRawEntry (take (h.position + 1) h.entries) s.entry (All-take IsRawEntry (h.position + 1) h.entries is.within)
       (subst IsRawColouring (sym s.made.colouring) (IsRawColouring-edited (present h) K e (present_is_raw h is) s.closure parts.0)));
+  chains = subst AreEntries (sym s.entries) (AreEntries-push h.entries h.position (edited (present h) K e) s.entry is.chains is.inside s.made);
 }
   where
     parts : (first_that_holds (edit_tests (present h) K e) ≡ None) × (h.position ≡ MOST_POSITION → ⊥)
@@ -73,29 +72,32 @@ accepts_history h undoes h2 is a = record {
   inside = omega (arith, a.position, is.inside, ap length a.entries);
   few = omega (arith, is.few, ap length a.entries);
   within = subst (All IsRawEntry) (sym a.entries) is.within;
+  chains = subst AreEntries (sym a.entries) is.chains;
 }
 accepts_history h redoes h2 is a = record {
   inside = omega (arith, a.position, a.allowed, ap length a.entries);
   few = omega (arith, is.few, ap length a.entries);
   within = subst (All IsRawEntry) (sym a.entries) is.within;
+  chains = subst AreEntries (sym a.entries) is.chains;
 }
 
 pub step_keeps : StepKeeps
 step_keeps h move h2 is s = ⊎_elim (λ a. accepts_history h move h2 is a) (λ r. subst IsHistory (sym r.same) is) s
 
--- a step exists, since the present colouring has a closure
-edit_exists : (h : History) (e : Edit) (K : PairColouring) (o : Option EditFault) → IsClosureOf K (present h) → edit_refusal h K e ≡ o → (h2 : History) × Step h (edits e) h2
-edit_exists h e K (Some fault) k r = (h, inr (record { fault = fault; refused = (K, k, r); same = refl }))
-edit_exists h e K None k r =
-    let entry : Entry = record { colouring = edited (present h) K e } in
-    let next : History = record { entries = take (h.position + 1) h.entries ++ entry ∷ []; position = h.position + 1 } in
-    let step : EditStep h e K next = record { allowed = r; closure = k; entry = entry; made = record { colouring = refl }; entries = refl; position = refl } in
+-- a step exists, since the present colouring has a closure, and what an edit makes has a chain
+edit_exists : (h : History) (e : Edit) (K : PairColouring) (o : Option EditFault) → IsHistory h → IsClosureOf K (present h) → edit_refusal h K e ≡ o → (h2 : History) × Step h (edits e) h2
+edit_exists h e K (Some fault) is k r = (h, inr (record { fault = fault; refused = (K, k, r); same = refl }))
+edit_exists h e K None is k r =
+    let raw = IsRawColouring-edited (present h) K e (present_is_raw h is) k (allowed_parts h K e r).0 in
+    let made = after_exists (h.position + 1) (entry_at h) (edited (present h) K e) (sound_at h.entries h.position is.chains is.within is.inside) raw.fits.colouring in
+    let next : History = record { entries = take (h.position + 1) h.entries ++ made.0 ∷ []; position = h.position + 1 } in
+    let step : EditStep h e K next = record { allowed = r; closure = k; entry = made.0; made = made.1; entries = refl; position = refl } in
     (next, inl (K, step))
 
 pub step_exists : StepExists
 step_exists h (edits e) is =
     let k = named_closure_exists (present h) (present_is_raw h is).fits.colouring in
-    edit_exists h e k.0 (edit_refusal h k.0 e) k.1 refl
+    edit_exists h e k.0 (edit_refusal h k.0 e) is k.1 refl
 step_exists h undoes is =
     ⊎_elim
     (λ first. (h, inr (record { fault = NothingToUndo; refused = (refl, first); same = refl })))

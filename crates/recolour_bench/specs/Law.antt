@@ -1,10 +1,15 @@
 -- What holds of histories and their moves.
-use Rattle.std.specs.Prelude.{◌≡◌}
+use Rattle.std.specs.Prelude.{◌≡◌, ◌+◌, ◌≤◌, length, All}
 use Rattle.pair_colours.specs.Colouring.{PairColouring, IsRawColouring}
+use Rattle.pair_colours.specs.Closure.{IsClosureOf}
+use Rattle.trace_text.specs.declared.limits.TheConstants.{MOST_TRACE}
+use Rattle.trace_text.specs.Acceptance as traces
+use Rattle.trace_text.specs.TraceText.{trace_text}
 use Rattle.recolour_bench.specs.declared.edits.EditFault.{EditFault}
 use Rattle.recolour_bench.specs.declared.history.TheConstants.{MOST_POSITION}
 use Rattle.recolour_bench.specs.Recolouring.{IsLeastUnused, least_unused}
-use Rattle.recolour_bench.specs.History.{History, IsHistory, Starts, AreAlike, present}
+use Rattle.recolour_bench.specs.EntryChains.{claim_by}
+use Rattle.recolour_bench.specs.History.{Entry, History, IsHistory, Starts, AreAlike, present, present_chain, stage_colours}
 use Rattle.recolour_bench.specs.Steps.{Move, Accepts, IsRefused, Step}
 
 -- each colouring within the limits starts a history; all that it starts are histories, and alike
@@ -45,6 +50,33 @@ PresentIsRaw = (h : History) → IsHistory h → IsRawColouring (present h)
 
 abbrev pub PresentIsUnique : Type 0
 PresentIsUnique = (h k : History) → IsHistory h → AreAlike h k → present h ≡ present k
+
+-- the chain of the entry shows the closure of its colouring: the claim is accepted
+abbrev pub IsShown : Entry → Type 0
+IsShown entry = (K : PairColouring) → IsClosureOf K entry.colouring → traces.Accepts (claim_by entry.chain K)
+
+-- the text of each such claim is within the limit of a trace
+abbrev pub FitsText : Entry → Type 0
+FitsText entry = (K : PairColouring) → IsClosureOf K entry.colouring → length (trace_text (claim_by entry.chain K)) ≤ MOST_TRACE
+
+-- each chain of a history shows the closure
+abbrev pub ChainsAreAccepted : Type 0
+ChainsAreAccepted = (h : History) → IsHistory h → All IsShown h.entries
+
+-- and has no more stages than a history has positions, each of a colouring within the limits
+abbrev pub ChainsAreShort : Type 0
+ChainsAreShort = (h : History) → IsHistory h → All (λ entry. length entry.chain ≤ MOST_POSITION + 1) h.entries
+
+abbrev pub ChainsAreRaw : Type 0
+ChainsAreRaw = (h : History) → IsHistory h → All (λ entry. All (λ stage. IsRawColouring stage.colours) entry.chain) h.entries
+
+-- so that its text can be checked
+abbrev pub ChainTextsFit : Type 0
+ChainTextsFit = (h : History) → IsHistory h → All FitsText h.entries
+
+-- alike histories have present chains of the same colours
+abbrev pub ChainIsUnique : Type 0
+ChainIsUnique = (h k : History) → IsHistory h → AreAlike h k → stage_colours (present_chain h) ≡ stage_colours (present_chain k)
 
 -- the number that `fix` takes is the least that no pair has
 abbrev pub FixTakesLeast : Type 0

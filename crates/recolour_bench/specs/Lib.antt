@@ -1,5 +1,6 @@
 pub mod Edits
 pub mod Recolouring
+pub mod EntryChains
 pub mod History
 pub mod Steps
 pub mod Law

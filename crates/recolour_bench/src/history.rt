@@ -4,36 +4,29 @@ ghost use Rattle.std.specs.Prelude.{◌≡◌, ◌≢◌, ◌+◌, ◌≤◌, Al
 ghost use Rattle.pair_colours.specs.Colouring.{PairColouring, IsRawColouring};
 ghost use Rattle.pair_colours.specs.Closure.{IsClosureOf};
 ghost use Rattle.recolour_bench.specs.Edits.{Adopt, edit_of};
-ghost use Rattle.recolour_bench.specs.History.{IsHistory, Starts, present};
+ghost use Rattle.recolour_bench.specs.History.{IsHistory, Starts, present, present_chain};
 ghost use Rattle.recolour_bench.specs.Steps.{edits, undoes, redoes, Accepts, IsRefused, Step};
 
+use crate::chaining::{Made, made_by, made_first};
 use crate::edits::{Edit, EditFault};
-use crate::kept::{Kept, put_after};
+use crate::kept::{Kept, put_after, stages_from};
 use crate::recolouring::edited_by;
 use crate::refusals::refusal_at;
 use pair_colours::{Colouring, MOST_COLOUR, NoMemory};
 use std::alloc::Global;
 use std::marker::Model;
-use wl_refine::close_matrix;
+use trace_text::Stage;
 
 /// The greatest position: a history has at most one entry more.
 pub const MOST_POSITION: u32 = 256;
 
-// The closure of a colouring that the edit made. What `adopt` made is a closure, and so its own.
-fn closure_after(alloc: Global, edit: &Edit, raw: &Colouring) -> Result<Colouring, NoMemory>
-    requires { edit_of edit.now ≡ Adopt → IsClosureOf raw.now raw.now }
-    ensures { IfOk result (λ closure. IsClosureOf closure raw.now) }
-{
-    match edit {
-        Edit::Adopt => raw.copy(alloc),
-        _ => close_matrix(alloc, raw),
-    }
-}
-
-/// The colourings that a run of edits has made, the present one among them. Later ones, from
-/// which the history has moved back, are kept until an edit takes their place.
+/// The colourings that a run of edits has made, the present one among them, each with its closure
+/// and the chain of stages that shows it. Later ones, from which the history has moved back, are
+/// kept until an edit takes their place.
 #[derive(Drop)]
 pub struct Bench {
+    // The stage of each entry. Its colours are the colouring.
+    stages: Vec<Stage>,
     kept: Vec<Kept>,
     position: u32,
     alloc: Global,
@@ -45,9 +38,9 @@ impl Model for Bench {
 
     ghost Value = { History };
 
-    ghost view = { λ b. history_of b.kept.items b.position };
+    ghost view = { λ b. history_of b.stages.items b.kept.items b.position };
 
-    ghost invariant = { λ b. IsKeptHistory b.kept.items b.position };
+    ghost invariant = { λ b. IsKeptHistory b.stages.items b.kept.items b.position };
 }
 
 impl Bench {
@@ -57,10 +50,13 @@ impl Bench {
         ensures started { IfOk result (Starts raw) }
         ensures within { IfOk result IsHistory }
     {
-        let closure = close_matrix(alloc, &raw)?;
+        let made = made_first(alloc, raw)?;
+        let mut stages = Vec::new(alloc);
+        stages.push(made.stage)?;
         let mut kept = Vec::new(alloc);
-        kept.push(Kept { raw, closure })?;
+        kept.push(made.kept)?;
         Ok(Bench {
+            stages,
             kept,
             position: 0,
             alloc,
@@ -80,7 +76,7 @@ impl Bench {
         ensures last { result + 1 ≡ length self.now.entries }
         ensures within { IsHistory self.now }
     {
-        (self.kept.len() - 1) as u32
+        (self.stages.len() - 1) as u32
     }
 
     /// The present colouring.
@@ -88,7 +84,7 @@ impl Bench {
         ensures value { result.now ≡ present self.now }
         ensures within { IsRawColouring result.now }
     {
-        &self.kept[self.position as usize].raw
+        &self.stages[self.position as usize].colours
     }
 
     /// The closure of the present colouring, number for number as it is computed from scratch.
@@ -100,6 +96,17 @@ impl Bench {
         &self.kept[self.position as usize].closure
     }
 
+    /// The stages that show the closure, the last of them of the present colouring. Where the
+    /// present colouring refines the one before, they are the chain of that one and a stage more.
+    pub fn chain(&self) -> &[Stage]
+        ensures value { result.now ≡ present_chain self.now }
+        ensures within { All (λ stage. IsRawColouring stage.colours) result.now }
+        ensures few { length result.now ≤ MOST_POSITION + 1 }
+    {
+        let place = self.position as usize;
+        stages_from(&self.stages, self.kept[place].start, place + 1)
+    }
+
     /// Cuts the later entries, appends what the edit makes of the present colouring, and moves to
     /// it. After any fault the bench is as it was, its later entries too.
     pub fn edit(&mut self, edit: &Edit) -> Result<(), EditFault>
@@ -109,17 +116,15 @@ impl Bench {
         ensures step { result ≢ Err EditFault.NoMemory → Step self.old (edits (edit_of edit.now)) self.new }
         ensures within { IsHistory self.new }
     {
-        let now = &self.kept[self.position as usize];
-        if let Some(fault) = refusal_at(now, self.position, edit) {
+        let place = self.position as usize;
+        let before = &self.stages[place].colours;
+        let now = &self.kept[place];
+        if let Some(fault) = refusal_at(before, self.position, edit) {
             return Err(fault);
         }
-        let raw = edited_by(self.alloc, now, edit)?;
-        let closure = closure_after(self.alloc, edit, &raw)?;
-        put_after(
-            &mut self.kept,
-            self.position as usize,
-            Kept { raw, closure },
-        )?;
+        let raw = edited_by(self.alloc, before, &now.closure, edit)?;
+        let Made { stage, kept } = made_by(self.alloc, edit, raw, before, now, place)?;
+        put_after(&mut self.stages, &mut self.kept, place, stage, kept)?;
         self.position += 1;
         Ok(())
     }
@@ -147,7 +152,7 @@ impl Bench {
         ensures step { Step self.old redoes self.new }
         ensures within { IsHistory self.new }
     {
-        if self.position as usize + 1 == self.kept.len() {
+        if self.position as usize + 1 == self.stages.len() {
             return Err(EditFault::NothingToRedo);
         }
         self.position += 1;

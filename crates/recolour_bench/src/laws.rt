@@ -1,6 +1,6 @@
 //! Laws over the definitions alone. Each is the contract of a function that does nothing.
 
-ghost use Rattle.recolour_bench.specs.Law.{StartExists, StartIsHistory, StartIsUnique, StepExists, StepKeeps, StepIsUnique, NotBoth, RefusalIsUnique, RefusalIsAlike, PresentIsRaw, PresentIsUnique, FixTakesLeast, MostPosition};
+ghost use Rattle.recolour_bench.specs.Law.{StartExists, StartIsHistory, StartIsUnique, StepExists, StepKeeps, StepIsUnique, NotBoth, RefusalIsUnique, RefusalIsAlike, PresentIsRaw, PresentIsUnique, ChainsAreAccepted, ChainsAreShort, ChainsAreRaw, ChainTextsFit, ChainIsUnique, FixTakesLeast, MostPosition};
 
 /// A colouring within the limits starts a history. All that it starts are alike.
 pub fn starts()
@@ -10,7 +10,8 @@ pub fn starts()
 {}
 
 /// Every move leads from every history to one, which is a history again. From alike histories it
-/// leads to alike ones, so that all runs along one list of moves have the same colourings.
+/// leads to alike ones, so that all runs along one list of moves have the same colourings, and
+/// chains that differ in steps alone.
 pub fn steps()
     ensures exists { StepExists }
     ensures keeps { StepKeeps }
@@ -29,6 +30,16 @@ pub fn refusals()
 pub fn present_colouring()
     ensures raw { PresentIsRaw }
     ensures unique { PresentIsUnique }
+{}
+
+/// Each chain of a history shows the closure: their claim is accepted. The text of the claim is
+/// within the limit of a trace. Alike histories have present chains that differ in steps alone.
+pub fn chains()
+    ensures accepted { ChainsAreAccepted }
+    ensures short { ChainsAreShort }
+    ensures raw { ChainsAreRaw }
+    ensures texts { ChainTextsFit }
+    ensures unique { ChainIsUnique }
 {}
 
 /// The number that `fix` gives a point is the least that no pair has.

@@ -8,7 +8,6 @@ ghost use Rattle.recolour_bench.specs.Steps.{edit_tests};
 ghost use Rattle.recolour_bench.specs.Recolouring.{IsLeastUnused, has_colour, is_pair, least_unused, recoloured, edited};
 
 use crate::edits::Edit;
-use crate::kept::Kept;
 use pair_colours::{Colouring, NoMemory};
 use std::alloc::Global;
 
@@ -111,15 +110,20 @@ fn joined(alloc: Global, colouring: &Colouring, keep: u32, gone: u32) -> Result<
 }
 
 // What the edit makes of a colouring with its closure.
-pub(crate) fn edited_by(alloc: Global, now: &Kept, edit: &Edit) -> Result<Colouring, NoMemory>
-    requires { first_that_holds (edit_tests now.now.raw now.now.closure (edit_of edit.now)) ≡ None }
-    ensures { IfOk result (λ next. next ≡ edited now.now.raw now.now.closure (edit_of edit.now)) }
+pub(crate) fn edited_by(
+    alloc: Global,
+    raw: &Colouring,
+    closure: &Colouring,
+    edit: &Edit,
+) -> Result<Colouring, NoMemory>
+    requires { first_that_holds (edit_tests raw.now closure.now (edit_of edit.now)) ≡ None }
+    ensures { IfOk result (λ next. next ≡ edited raw.now closure.now (edit_of edit.now)) }
 {
     match *edit {
-        Edit::Set { x, y, colour } => with_pair(alloc, &now.raw, x, y, colour),
-        Edit::Both { x, y, colour } => with_both(alloc, &now.raw, x, y, colour),
-        Edit::Fix { x } => with_fixed(alloc, &now.raw, x),
-        Edit::Join { keep, gone } => joined(alloc, &now.raw, keep, gone),
-        Edit::Adopt => now.closure.copy(alloc),
+        Edit::Set { x, y, colour } => with_pair(alloc, raw, x, y, colour),
+        Edit::Both { x, y, colour } => with_both(alloc, raw, x, y, colour),
+        Edit::Fix { x } => with_fixed(alloc, raw, x),
+        Edit::Join { keep, gone } => joined(alloc, raw, keep, gone),
+        Edit::Adopt => closure.copy(alloc),
     }
 }

@@ -2,13 +2,13 @@
 
 ghost use Rattle.std.specs.Prelude.{◌≡◌, ◌==◌, ◌++◌, [], ◌∷◌, IfNone};
 ghost use Rattle.recolour_bench.specs.declared.edits.EditFault.TheVariants.{HistoryFull};
+ghost use Rattle.pair_colours.specs.Colouring.{PairColouring};
 ghost use Rattle.pair_colours.specs.Tests.{first_that_holds};
 ghost use Rattle.recolour_bench.specs.Edits.{edit_of};
 ghost use Rattle.recolour_bench.specs.Steps.{pair_tests, colour_tests, edit_tests};
 
 use crate::edits::{Edit, EditFault};
 use crate::history::MOST_POSITION;
-use crate::kept::Kept;
 use pair_colours::{Colouring, MOST_COLOUR};
 
 // Why the pair (x, y) cannot get the colour.
@@ -37,29 +37,29 @@ fn colour_refusal(colouring: &Colouring, colour: u32) -> Option<EditFault>
     }
 }
 
-// Why the colouring cannot be edited so.
-fn own_refusal(now: &Kept, edit: &Edit) -> Option<EditFault>
-    ensures { result ≡ first_that_holds (edit_tests now.now.raw now.now.closure (edit_of edit.now)) }
+// Why the colouring cannot be edited so. No test asks for its closure.
+fn own_refusal(raw: &Colouring, edit: &Edit) -> Option<EditFault>
+    ensures { (K : PairColouring) → result ≡ first_that_holds (edit_tests raw.now K (edit_of edit.now)) }
 {
     match *edit {
         Edit::Set { x, y, colour } | Edit::Both { x, y, colour } => {
-            pair_refusal(&now.raw, x, y, colour)
+            pair_refusal(raw, x, y, colour)
         }
-        Edit::Fix { x } if x >= now.raw.size() => Some(EditFault::PointRange),
-        Edit::Join { keep, gone } => match colour_refusal(&now.raw, keep) {
+        Edit::Fix { x } if x >= raw.size() => Some(EditFault::PointRange),
+        Edit::Join { keep, gone } => match colour_refusal(raw, keep) {
             Some(fault) => Some(fault),
-            None => colour_refusal(&now.raw, gone),
+            None => colour_refusal(raw, gone),
         },
         Edit::Fix { .. } | Edit::Adopt => None,
     }
 }
 
-// Why the edit is refused at a position where this is kept.
-pub(crate) fn refusal_at(now: &Kept, position: u32, edit: &Edit) -> Option<EditFault>
-    ensures first { result ≡ first_that_holds (edit_tests now.now.raw now.now.closure (edit_of edit.now) ++ (position == MOST_POSITION, HistoryFull) ∷ []) }
-    ensures own { IfNone result (first_that_holds (edit_tests now.now.raw now.now.closure (edit_of edit.now)) ≡ None) }
+// Why the edit is refused at a position of this colouring.
+pub(crate) fn refusal_at(raw: &Colouring, position: u32, edit: &Edit) -> Option<EditFault>
+    ensures first { (K : PairColouring) → result ≡ first_that_holds (edit_tests raw.now K (edit_of edit.now) ++ (position == MOST_POSITION, HistoryFull) ∷ []) }
+    ensures own { IfNone result ((K : PairColouring) → first_that_holds (edit_tests raw.now K (edit_of edit.now)) ≡ None) }
 {
-    match own_refusal(now, edit) {
+    match own_refusal(raw, edit) {
         Some(fault) => Some(fault),
         None if position == MOST_POSITION => Some(EditFault::HistoryFull),
         None => None,

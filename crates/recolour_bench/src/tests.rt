@@ -105,3 +105,43 @@ fn a_full_history(rt: HostRuntime) -> Result<(), Fail> {
     assert_eq!(rt; bench.edit(&Edit::Adopt), Err(EditFault::HistoryFull));
     Ok(())
 }
+
+// The chain of each entry: how many stages it has.
+#[test]
+fn chains_of_the_pentagon(rt: HostRuntime) -> Result<(), Fail> {
+    let alloc = rt.alloc();
+    let mut fixed = Bench::new(alloc, pentagon(alloc)?.present().copy(alloc)?)?;
+    assert_eq!(rt; fixed.chain().len(), 1);
+    assert_eq!(rt; fixed.edit(&Edit::Fix { x: 0 }), Ok(()));
+    assert_eq!(rt; fixed.chain().len(), 2);
+    assert_eq!(rt; fixed.undo(), Ok(()));
+    assert_eq!(rt; fixed.chain().len(), 1);
+    assert_eq!(rt; fixed.redo(), Ok(()));
+    assert_eq!(rt; fixed.chain().len(), 2);
+    let mut edited = Bench::new(alloc, pentagon(alloc)?.present().copy(alloc)?)?;
+    for (edit, stages) in [
+        (both(0, 1, 9), 2),
+        (join(9, 1), 1),
+        (join(9, 9), 2),
+        (set(0, 1, 8), 3),
+    ] {
+        assert_eq!(rt; edited.edit(&edit), Ok(()));
+        assert_eq!(rt; edited.chain().len(), stages);
+    }
+    Ok(())
+}
+
+// Each `adopt` puts a stage without steps at the end of the chain.
+#[test]
+fn a_chain_of_adopted_closures(rt: HostRuntime) -> Result<(), Fail> {
+    let alloc = rt.alloc();
+    let mut bench = Bench::new(alloc, Colouring::new(alloc, 2, 7)?)?;
+    for _ in 0..256 {
+        assert_eq!(rt; bench.edit(&Edit::Adopt), Ok(()));
+    }
+    assert_eq!(rt; bench.chain().len(), 257);
+    for stage in &bench.chain()[1..] {
+        assert_eq!(rt; stage.steps.len(), 0);
+    }
+    Ok(())
+}

@@ -1,0 +1,3 @@
+pub mod Closedness
+pub mod Products
+pub use Rattle.visitors.specs.Lists

@@ -1,0 +1,3 @@
+pub mod MaskSets
+mod Deliveries
+pub mod Packings

@@ -1,0 +1,8 @@
+mod Numbers
+mod Labellings
+mod Sums
+mod Fusions
+mod Products
+mod Filling
+mod OnePoint
+pub mod LawProofs

@@ -1,0 +1,12 @@
+mod Points
+mod Leasts
+mod Filling
+mod Meets
+mod Namings
+mod Tellings
+mod Fibres
+mod Quotients
+mod Subschemes
+mod Wholes
+mod OnePoint
+pub mod LawProofs

@@ -1,0 +1,7 @@
+use Rattle.std.proofs.Common.{◌≡◌, ℕ, ◌<◌, false}
+use Rattle.pair_colours.specs.Colouring.{colour_at}
+use Rattle.pair_colours.specs.ColourSets.{is_in}
+use Rattle.quotients.proofs.classes.least_of.Given as goal
+
+abbrev pub invariant-loop-y : goal.invariant-loop-y
+invariant-loop-y l = (z : ℕ) → z < l.y → is_in l.members (colour_at l.k l.x z) ≡ false

@@ -2,3 +2,6 @@ mod ClassLines
 mod Rising
 mod ConstantLists
 mod Literals
+mod EntryLines
+mod HeadLines
+mod EntryLiterals

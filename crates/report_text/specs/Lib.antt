@@ -6,3 +6,6 @@ pub mod Classes
 pub mod Constants
 pub mod Tests
 pub mod Verdicts
+pub mod Entries
+pub mod Sets
+pub mod Strings

@@ -5,6 +5,8 @@
 //! * `classes`, `constants`: the answers that list the classes and the structure constants.
 //! * `test_lines`: the answer of the five tests.
 //! * `arrays`: the answers on distance-regular graphs.
+//! * `entries`: the lines of what a visitor met.
+//! * `sets`, `strings`: the answers that list sets of colours and growth strings.
 //! * `graphs`: the answers that show a graph of classes.
 //! * `verdict_lines`: the answer of a check of a trace.
 //!
@@ -17,8 +19,11 @@ mod arrays;
 mod classes;
 mod constants;
 mod edit_lines;
+mod entries;
 mod graphs;
 mod matrices;
+mod sets;
+mod strings;
 mod test_lines;
 #[cfg(test)]
 mod tests;
@@ -30,5 +35,7 @@ pub use constants::constants_text;
 pub use edit_lines::{edit_text, refused_text};
 pub use graphs::{GraphNote, graph_text};
 pub use matrices::{MatrixHead, matrix_text};
+pub use sets::{SetHead, sets_text};
+pub use strings::{close_text, mergings_text};
 pub use test_lines::tests_text;
 pub use verdict_lines::verdict_text;

@@ -15,6 +15,10 @@ pub enum MatrixHead {
     Show,
     /// The present colouring, with the raw colours.
     Raw,
+    /// The quotient of the closure by a closed subset.
+    Quotient,
+    /// A subscheme of the closure.
+    Sub,
 }
 
 /// The answer that shows a matrix: its head line, with the number of points and the number of
@@ -46,6 +50,14 @@ fn put_head(text: &mut Text, head: MatrixHead, points: u32, colours: u32) -> Res
         MatrixHead::Raw => {
             text.put_field(b"raw points ", points)?;
             text.put_field(b" colours ", colours)?;
+        }
+        MatrixHead::Quotient => {
+            text.put_field(b"quotient points ", points)?;
+            text.put_field(b" rank ", colours)?;
+        }
+        MatrixHead::Sub => {
+            text.put_field(b"sub points ", points)?;
+            text.put_field(b" rank ", colours)?;
         }
     }
     text.put(b"\n")

@@ -15,6 +15,7 @@ use std::alloc::Global;
 use std::process::Abort;
 use std::test::Fail;
 use struct_consts::Constants;
+use visitors::{Keep, Visitor};
 
 // The configuration with these rows.
 fn configuration(alloc: Global, rows: &[&[u32]]) -> Result<Constants, NoMemory>
@@ -246,6 +247,10 @@ fn other_answers(rt: HostRuntime) -> Result<(), Fail> {
     let alloc = rt.alloc();
     let show = matrix(alloc, MatrixHead::Show, &[&[0, 1], &[1, 0]]);
     same(&rt, show, "show points 2 rank 2\n0 1\n1 0\n")?;
+    let quotient = matrix(alloc, MatrixHead::Quotient, &[&[0, 1], &[1, 0]]);
+    same(&rt, quotient, "quotient points 2 rank 2\n0 1\n1 0\n")?;
+    let sub = matrix(alloc, MatrixHead::Sub, &[&[0]]);
+    same(&rt, sub, "sub points 1 rank 1\n0\n")?;
     let raw = matrix(alloc, MatrixHead::Raw, &[&[7, 7], &[7, 7]]);
     same(&rt, raw, "raw points 2 colours 1\n7 7\n7 7\n")?;
     same(&rt, edit_text(alloc, 5, 13), "ok points 5 rank 13\n")?;
@@ -253,5 +258,30 @@ fn other_answers(rt: HostRuntime) -> Result<(), Fail> {
     same(&rt, digraph, "digraph6 &BP_\n")?;
     let graph = graph_text(alloc, GraphNote::Graph6, b"G?CaC?");
     same(&rt, graph, "graph6 G?CaC?\n")?;
+    Ok(())
+}
+
+// The closed subsets of the cyclic group of four elements, and the fusions of that of three.
+#[test]
+fn lists_of_entries(rt: HostRuntime) -> Result<(), Fail> {
+    let alloc = rt.alloc();
+    let mut keep = Keep::new(alloc);
+    keep.begin(4);
+    let none = sets_text(alloc, SetHead::Good, &keep);
+    same(&rt, none, "good\nend\n")?;
+    keep.meet(&[0])?;
+    keep.meet(&[0, 2])?;
+    keep.meet(&[0, 1, 2, 3])?;
+    let closed = sets_text(alloc, SetHead::Closed, &keep);
+    same(&rt, closed, "closed\n0\n0 2\n0 1 2 3\nend\n")?;
+    keep.begin(2);
+    keep.meet(&[0, 1, 1])?;
+    keep.meet(&[0, 1, 2])?;
+    let all = mergings_text(alloc, &keep, 2);
+    same(&rt, all, "mergings\n0 1 1\n0 1 2\nend\n")?;
+    let first = mergings_text(alloc, &keep, 1);
+    same(&rt, first, "mergings\n0 1 1\nnext after 0 1 1\n")?;
+    let string = close_text(alloc, &[0, 1, 1]);
+    same(&rt, string, "close 0 1 1\n")?;
     Ok(())
 }

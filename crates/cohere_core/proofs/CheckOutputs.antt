@@ -35,7 +35,7 @@ use Rattle.cohere_core.proofs.Halted.{halted_status}
 -- ---- the file
 
 -- a trace is good
-good_trace : (files : Files) (trace : List ℕ) (claim : Claim) → IsTraceFile files trace claim → NoneIsBad files (Check trace)
+pub good_trace : (files : Files) (trace : List ℕ) (claim : Claim) → IsTraceFile files trace claim → NoneIsBad files (Check trace)
 good_trace files trace claim file =
     record { needs = named_files (Check trace); loaded = refl; good = (record { bytes = file.bytes; file = file.file; text = (claim, file.reads) }, tt) }
 

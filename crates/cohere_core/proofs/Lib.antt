@@ -1,5 +1,6 @@
 mod Runs
 mod OneOutput
+mod ShownTraces
 mod Halted
 mod RunOutputs
 mod CheckOutputs

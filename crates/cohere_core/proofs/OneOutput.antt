@@ -1,21 +1,24 @@
--- From alike histories the lines of a script have one text, and lead to alike histories. Of a trace that is not claimed.
-use Rattle.std.proofs.Common.{◌≡◌, ◌⊎◌, ℕ, Bool, true, false, List, [], ◌∷◌, ◌++◌, Some, None, ⊎_elim, refl, sym, ap, subst, ◌∙◌, inl, suc, arith}
+-- From alike histories the lines of a script have answers that agree line by line, and lead to alike histories.
+use Rattle.std.proofs.Common.{◌≡◌, ◌⊎◌, ℕ, Bool, true, false, List, [], ◌∷◌, ◌++◌, Option, Some, None, ⊎_elim, refl, sym, ap, subst, ◌∙◌, inl, suc, arith}
+use Rattle.std.proofs.lemmas.Option.{none-some}
 use Rattle.std.specs.Prelude.{◌≢◌, ◌↔◌, IsTrue, MatchOption}
 use Rattle.pair_colours.specs.Colouring.{PairColouring}
 use Rattle.pair_colours.specs.Closure.{IsClosureOf}
 use Rattle.pair_colours.specs.Naming.{rank_of}
 use Rattle.pair_colours.proofs.LawProofs.{named_closure_is_unique}
-use Rattle.recolour_bench.specs.History.{History, IsHistory, AreAlike, present}
+use Rattle.recolour_bench.specs.EntryChains.{claim_by}
+use Rattle.recolour_bench.specs.History.{History, IsHistory, AreAlike, present, present_chain}
 use Rattle.recolour_bench.specs.declared.edits.EditFault.{EditFault}
 use Rattle.recolour_bench.specs.Steps as steps
 use Rattle.recolour_bench.specs.Words.{edit_word}
-use Rattle.recolour_bench.proofs.LawProofs.{start_is_history, start_is_unique, step_is_unique, not_both, refusal_is_unique, refusal_is_alike, present_is_raw, present_is_unique}
+use Rattle.recolour_bench.proofs.LawProofs.{start_is_history, start_is_unique, step_is_unique, not_both, refusal_is_unique, refusal_is_alike, present_is_raw, present_is_unique, chain_is_unique}
 use Rattle.report_text.specs.EditLines.{ok_text, refused_text_of}
 use Rattle.report_text.specs.Matrices.{show_text, raw_text}
 use Rattle.report_text.specs.Classes.{classes_text_of}
 use Rattle.report_text.specs.Constants.{constants_text_of}
 use Rattle.report_text.specs.Tests.{tests_text_of}
 use Rattle.report_text.specs.Arrays.{array_text_of}
+use Rattle.trace_text.specs.TraceText.{trace_text}
 use Rattle.scheme_tests.specs.declared.properties.SchemeTests.{SchemeTests}
 use Rattle.scheme_tests.specs.Law.{AreAnswers}
 use Rattle.drg_arrays.proofs.LawProofs.{answer_is_unique}
@@ -24,19 +27,23 @@ use Rattle.script_text.specs.declared.acts.Act.TheVariants.{Trace, Show, Raw, Cl
 use Rattle.script_text.specs.declared.acts.Line.{Line}
 use Rattle.script_text.specs.declared.acts.GraphForm.{GraphForm}
 use Rattle.script_text.specs.declared.acts.GraphForm.TheVariants.{Graph6, Digraph6}
-use Rattle.cohere_core.specs.Answer.{AnswersArray, WritesGraph, OfConfiguration, IsAccepted, Moves, Tells, Answers, move_of}
-use Rattle.cohere_core.specs.Law.{HasNoTrace, OutputIsUnique, RunIsUnique}
+use Rattle.cohere_core.specs.Answer.{AnswersArray, Runs, WritesGraph, OfConfiguration, IsAccepted, Moves, Tells, Answers, move_of}
+use Rattle.cohere_core.specs.Agreement.{Agree, AgreeLineByLine, AreTracesOfOne}
+use Rattle.cohere_core.specs.Law.{HasNoTrace, OutputsAgree, RunsAgree, OutputIsUnique, RunIsUnique}
 use Rattle.cohere_core.proofs.Runs.{answer_keeps}
 
 -- ---- one answer of a query
 
--- what is said of the configuration of alike histories is said of one colouring
+-- alike histories have one configuration
+one_configuration : (h k : History) (K L : PairColouring) → IsHistory h → AreAlike h k → IsClosureOf K (present h) → IsClosureOf L (present k) → L ≡ K
+one_configuration h k K L i alike a b =
+    named_closure_is_unique (present h) L K (present_is_raw h i).fits.colouring (subst (IsClosureOf L) (sym (present_is_unique h k i alike)) b) a
+
+-- what is said of it is said of one colouring
 one_text : (h k : History) (P : PairColouring → List ℕ → Type 0) (t u : List ℕ) → IsHistory h → AreAlike h k → ((K : PairColouring) → P K t → P K u → t ≡ u)
     → OfConfiguration h (λ K. P K t) → OfConfiguration k (λ K. P K u) → t ≡ u
 one_text h k P t u i alike one a b =
-    let closure = subst (IsClosureOf b.configuration) (sym (present_is_unique h k i alike)) b.closure in
-    let same : b.configuration ≡ a.configuration =
-    named_closure_is_unique (present h) b.configuration a.configuration (present_is_raw h i).fits.colouring closure a.closure in
+    let same = one_configuration h k a.configuration b.configuration i alike a.closure b.closure in
     one a.configuration a.holds (subst (λ (K : PairColouring). P K u) same b.holds)
 
 one_boolean : (a b : Bool) (P : Type 0) → (IsTrue a ↔ P) → (IsTrue b ↔ P) → a ≡ b
@@ -69,6 +76,17 @@ one_graph : (K : PairColouring) (form : GraphForm) (set t u : List ℕ) → Writ
 one_graph K Graph6 set t u a b = one_side _ _ _ t u _ (λ x y. x ∙ sym y) a b
 one_graph K Digraph6 set t u a b = one_side _ _ _ t u _ (λ x y. x ∙ sym y) a b
 
+-- the traces of alike histories claim one closure, by chains of the same colours
+traces_agree : (h k : History) (t u : List ℕ) → IsHistory h → AreAlike h k → Tells h Trace t → Tells k Trace u → AreTracesOfOne t u
+traces_agree h k t u i alike a b = record {
+  closure = a.configuration;
+  chain = present_chain h;
+  other = present_chain k;
+  colours = chain_is_unique h k i alike;
+  text = a.holds;
+  other_text = b.holds ∙ ap (λ (K : PairColouring). trace_text (claim_by (present_chain k) K)) (one_configuration h k a.configuration b.configuration i alike a.closure b.closure);
+}
+
 one_query : (h k : History) (act : Act) (t u : List ℕ) → IsHistory h → AreAlike h k → act ≢ Trace → Tells h act t → Tells k act u → t ≡ u
 one_query h k Show t u i alike n a b = one_text h k (λ K t. t ≡ show_text K) t u i alike (λ K x y. x ∙ sym y) a b
 one_query h k Raw t u i alike n a b = a ∙ ap raw_text (present_is_unique h k i alike) ∙ sym b
@@ -81,6 +99,13 @@ one_query h k (Array set) t u i alike n a b = one_text h k (λ K t. AnswersArray
 one_query h k (Write form set) t u i alike n a b = one_text h k (λ K t. WritesGraph K form set t) t u i alike (λ K x y. one_graph K form set t u x y) a b
 one_query h k Trace t u i alike n a b = absurd (n refl)
 one_query h k act t u i alike n a b = absurd a
+
+-- two answers of a query agree
+queries_agree : (h k : History) (act : Act) (t u : List ℕ) → IsHistory h → AreAlike h k → Tells h act t → Tells k act u → Agree act t u
+queries_agree h k act t u i alike a b = record {
+  same = λ n. one_query h k act t u i alike n a b;
+  traces = λ e. traces_agree h k t u i alike (subst (λ (x : Act). Tells h x t) e a) (subst (λ (x : Act). Tells k x u) e b);
+}
 
 -- ---- one answer of an edit, an undo or a redo
 
@@ -97,7 +122,7 @@ not_refused : (h k : History) (move : steps.Move) (next : History) (fault : Edit
 not_refused h k move next fault i j alike r a = not_both k move next fault j a (refusal_is_alike h k move fault i alike r)
 
 alike_back : (h k : History) → AreAlike h k → AreAlike k h
-alike_back h k alike = record { position = sym alike.position; colourings = sym alike.colourings }
+alike_back h k alike = record { position = sym alike.position; colourings = sym alike.colourings; chains = sym alike.chains }
 
 one_move : (h k : History) (move : steps.Move) (next other : History) (t u : List ℕ) → IsHistory h → IsHistory k → AreAlike h k → IsHistory next
     → Moves h move next t → Moves k move other u → AreAlike next other × (t ≡ u)
@@ -114,33 +139,56 @@ one_move h k move next other t u i j alike keeps a b =
     )) b)
     a
 
--- ---- one output
+-- ---- outputs that agree
 
-one_answer : (h k : History) (act : Act) (next other : History) (t u : List ℕ) → IsHistory h → IsHistory k → AreAlike h k → act ≢ Trace → IsHistory next
-    → Answers h act next t → Answers k act other u → AreAlike next other × (t ≡ u)
-one_answer h k act next other t u i j alike n keeps a b =
-    elim (move_of act) as (λ m. MatchOption m ((next ≡ h) × Tells h act t) (λ move. Moves h move next t) → MatchOption m ((other ≡ k) × Tells k act u) (λ move. Moves k move other u)
-    → AreAlike next other × (t ≡ u)) [
-      | None ↦ λ x y. (
+-- an edit, an undo or a redo is no trace
+moves_agree : (act : Act) (move : steps.Move) (t u : List ℕ) → move_of act ≡ Some move → t ≡ u → Agree act t u
+moves_agree act move t u is same = record {
+  same = λ _. same;
+  traces = λ e. absurd (none-some move (sym (ap move_of e) ∙ is));
+}
+
+answers_agree : (h k : History) (act : Act) (next other : History) (t u : List ℕ) → IsHistory h → IsHistory k → AreAlike h k → IsHistory next
+    → Answers h act next t → Answers k act other u → AreAlike next other × Agree act t u
+answers_agree h k act next other t u i j alike keeps a b =
+    elim (move_of act) as (λ m. move_of act ≡ m → MatchOption m ((next ≡ h) × Tells h act t) (λ move. Moves h move next t) → MatchOption m ((other ≡ k) × Tells k act u) (λ move. Moves k move other u)
+    → AreAlike next other × Agree act t u) [
+      | None ↦ λ is x y. (
         subst (λ (e : History). AreAlike next e) (sym y.0) (subst (λ (e : History). AreAlike e k) (sym x.0) alike),
-        one_query h k act t u i alike n x.1 y.1,
+        queries_agree h k act t u i alike x.1 y.1,
       )
-      | Some move ↦ λ x y. one_move h k move next other t u i j alike keeps x y
-    ] a b
+      | Some move ↦ λ is x y. let same = one_move h k move next other t u i j alike keeps x y in (same.0, moves_agree act move t u is same.1)
+    ] refl a b
+
+pub runs_agree : RunsAgree
+runs_agree h k end other [] t u i j alike a b =
+    (subst (λ (e : History). AreAlike end e) (sym b.0) (subst (λ (e : History). AreAlike e k) (sym a.0) alike), (a.1, b.1))
+runs_agree h k end other (line ∷ lines) t u i j alike (next, first, rest, answers, run, is) (next2, first2, rest2, answers2, run2, is2) =
+    let i2 = answer_keeps h line.act next first i answers in
+    let j2 = answer_keeps k line.act next2 first2 j answers2 in
+    let same = answers_agree h k line.act next next2 first first2 i j alike i2 answers answers2 in
+    let rests = runs_agree next next2 end other lines rest rest2 i2 j2 same.0 run run2 in
+    (rests.0, (first, first2, rest, rest2, same.1, rests.1, is, is2))
+
+pub outputs_agree : OutputsAgree
+outputs_agree C lines t u raw a b =
+    (runs_agree a.0 b.0 a.2 b.2 lines t u (start_is_history C a.0 raw a.1) (start_is_history C b.0 raw b.1) (start_is_unique C a.0 b.0 a.1 b.1) a.3 b.3).1
+
+-- ---- one output
 
 HasNoTrace-tail : (line : Line) (lines : List Line) → HasNoTrace (line ∷ lines) → HasNoTrace lines
 HasNoTrace-tail line lines n = λ k d l. n (suc k) d (omega (arith, l))
 
+-- texts that agree line by line are equal, where no line asks for a trace
+one_from_agreement : (lines : List Line) (t u : List ℕ) → HasNoTrace lines → AgreeLineByLine lines t u → t ≡ u
+one_from_agreement [] t u n a = a.0 ∙ sym a.1
+one_from_agreement (line ∷ lines) t u n (first, other, rest, others, agree, rests, is, is2) =
+    is ∙ ap (λ (l : List ℕ). l ++ rest) (agree.same (n 0 line (omega arith)))
+    ∙ ap (λ (l : List ℕ). other ++ l) (one_from_agreement lines rest others (HasNoTrace-tail line lines n) rests) ∙ sym is2
+
 pub run_is_unique : RunIsUnique
-run_is_unique h k end other [] t u i j alike n a b =
-    (subst (λ (e : History). AreAlike end e) (sym b.0) (subst (λ (e : History). AreAlike e k) (sym a.0) alike), a.1 ∙ sym b.1)
-run_is_unique h k end other (line ∷ lines) t u i j alike n (next, first, rest, answers, run, is) (next2, first2, rest2, answers2, run2, is2) =
-    let i2 = answer_keeps h line.act next first i answers in
-    let j2 = answer_keeps k line.act next2 first2 j answers2 in
-    let same = one_answer h k line.act next next2 first first2 i j alike (n 0 line (omega arith)) i2 answers answers2 in
-    let rests = run_is_unique next next2 end other lines rest rest2 i2 j2 same.0 (HasNoTrace-tail line lines n) run run2 in
-    (rests.0, is ∙ ap (λ (l : List ℕ). l ++ rest) same.1 ∙ ap (λ (l : List ℕ). first2 ++ l) rests.1 ∙ sym is2)
+run_is_unique h k end other lines t u i j alike n a b =
+    let agree = runs_agree h k end other lines t u i j alike a b in (agree.0, one_from_agreement lines t u n agree.1)
 
 pub output_is_unique : OutputIsUnique
-output_is_unique C lines t u raw n a b =
-    (run_is_unique a.0 b.0 a.2 b.2 lines t u (start_is_history C a.0 raw a.1) (start_is_history C b.0 raw b.1) (start_is_unique C a.0 b.0 a.1 b.1) n a.3 b.3).1
+output_is_unique C lines t u raw n a b = one_from_agreement lines t u n (outputs_agree C lines t u raw a b)

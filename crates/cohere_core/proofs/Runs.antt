@@ -10,7 +10,8 @@ use Rattle.scheme_io.specs.Bytes.{AppendsPart}
 use Rattle.pair_colours.specs.Colouring.{PairColouring, FitsColouring, IsRawColouring}
 use Rattle.pair_colours.specs.Naming.{rank_of}
 use Rattle.pair_colours.proofs.LawProofs.{named_closure_exists, closure_is_raw, colour_set_or_not, edge_set_or_not}
-use Rattle.recolour_bench.specs.History.{History, IsHistory, Starts, present}
+use Rattle.recolour_bench.specs.EntryChains.{claim_by}
+use Rattle.recolour_bench.specs.History.{History, IsHistory, Starts, present, present_chain}
 use Rattle.recolour_bench.specs.declared.edits.EditFault.{EditFault}
 use Rattle.recolour_bench.specs.declared.edits.EditFault.TheVariants as faults
 use Rattle.recolour_bench.specs.Steps as steps
@@ -22,6 +23,7 @@ use Rattle.report_text.specs.Classes.{classes_text_of}
 use Rattle.report_text.specs.Constants.{constants_text_of}
 use Rattle.report_text.specs.Tests.{tests_text_of}
 use Rattle.report_text.specs.Arrays.{array_text_of}
+use Rattle.trace_text.specs.TraceText.{trace_text}
 use Rattle.scheme_tests.specs.declared.properties.SchemeTests.{SchemeTests}
 use Rattle.scheme_tests.specs.Law.{AreAnswers}
 use Rattle.scheme_tests.proofs.LawProofs.{answers_exist}
@@ -30,7 +32,7 @@ use Rattle.drg_arrays.specs.declared.answer.ArrayAnswer.{ArrayAnswer}
 use Rattle.drg_arrays.specs.declared.answer.ArrayAnswer.TheVariants as arrays
 use Rattle.drg_arrays.proofs.LawProofs.{answer_exists}
 use Rattle.script_text.specs.declared.acts.Act.{Act}
-use Rattle.script_text.specs.declared.acts.Act.TheVariants.{Set, Both, Fix, Join, Adopt, Undo, Redo, Show, Raw, Classes, Constants, Tests, Array, Write}
+use Rattle.script_text.specs.declared.acts.Act.TheVariants.{Set, Both, Fix, Join, Adopt, Undo, Redo, Show, Raw, Classes, Constants, Tests, Array, Trace, Write}
 use Rattle.script_text.specs.declared.acts.Line.{Line}
 use Rattle.script_text.specs.declared.acts.GraphForm.TheVariants.{Graph6, Digraph6}
 use Rattle.relation_text.specs.Written.{graph6_of, digraph6_of}
@@ -40,7 +42,7 @@ use Rattle.report_text.specs.declared.graphs.GraphNote.TheVariants as notes
 use Rattle.cohere_core.specs.declared.answering.SessionFault.{SessionFault}
 use Rattle.cohere_core.specs.declared.answering.SessionFault.TheVariants.{SinkFailed, NoMemory}
 use Rattle.cohere_inputs.specs.Acts.{is_built, AreBuilt}
-use Rattle.cohere_core.specs.Answer.{AnswersArray, WritesGraph, OfConfiguration, IsHalfway, MoveTakesMemory, Moves, TakesMemory, Tells, Answers, Runs, Answered, Stopped, move_of}
+use Rattle.cohere_core.specs.Answer.{AnswersArray, WritesGraph, OfConfiguration, IsAccepted, IsHalfway, MoveTakesMemory, Moves, TakesMemory, Tells, Answers, Runs, Answered, Stopped, move_of}
 use Rattle.cohere_core.specs.Law.{OutputExists, RunExists}
 use Rattle.cohere_core.specs.Output.{AddsScriptFront}
 
@@ -74,6 +76,8 @@ has_query h Constants i b m = has_configuration h i (λ K t. t ≡ constants_tex
 has_query h Tests i b m =
     has_configuration h i (λ K t. (tests : SchemeTests) × AreAnswers K tests × (t ≡ tests_text_of tests))
     (λ K is fits. let answers = answers_exist K (record { fits = fits; coherent = is.closure.coherent; named = is.named }) in (tests_text_of answers.0, (answers.0, answers.1, refl)))
+has_query h Trace i b m =
+    has_configuration h i (λ K t. t ≡ trace_text (claim_by (present_chain h) K)) (λ K _ _. (trace_text (claim_by (present_chain h) K), refl))
 has_query h (Array set) i b m =
     has_configuration h i (λ K t. AnswersArray K set t) (λ K _ fits. ⊎_elim
     (λ bad. (refused_text_of (codes "BadSet"), inl (bad, refl)))
@@ -130,6 +134,7 @@ query_has_bytes h Raw t a = subst (λ (s : List ℕ). 0 < length s) (sym a) (ome
 query_has_bytes h Classes t a = subst (λ (s : List ℕ). 0 < length s) (sym a.holds) (omega arith)
 query_has_bytes h Constants t a = subst (λ (s : List ℕ). 0 < length s) (sym a.holds) (omega arith)
 query_has_bytes h Tests t a = subst (λ (s : List ℕ). 0 < length s) (sym a.holds.2) (omega arith)
+query_has_bytes h Trace t a = subst (λ (s : List ℕ). 0 < length s) (sym a.holds) (omega arith)
 query_has_bytes h (Array set) t a =
     ⊎_elim
     (λ bad. subst (λ (s : List ℕ). 0 < length s) (sym bad.1) (omega arith))
@@ -164,6 +169,12 @@ pub refused_unanswered : {T E : Type 0} (result : Result T E) (fault : EditFault
     → (fault ≢ faults.NoMemory → steps.IsRefused h move fault) → next ≡ h → OnErr result (IsHalfway (MoveTakesMemory move) h next (Moves h move next))
 refused_unanswered (Ok text) fault h next move memory refused same = tt
 refused_unanswered (Err wanting) fault h next move memory refused same = refused_halfway fault h next move memory refused same
+
+-- an act that was carried out, and whose answer was not made
+pub moved_unanswered : {T E : Type 0} (result : Result T E) (h next : History) (move : steps.Move) → steps.Accepts h move next → ((t : List ℕ) × IsAccepted next t)
+    → OnErr result (IsHalfway (MoveTakesMemory move) h next (Moves h move next))
+moved_unanswered (Ok text) h next move accepts has = tt
+moved_unanswered (Err wanting) h next move accepts has = inr (has.0, inl (accepts, has.1))
 
 -- what holds at the fault that is returned
 pub at_fault : {T E : Type 0} (P : E → Type 0) (result : Result T E) (fault : E) → IsErrAnd result (λ e. e ≡ fault) → P fault → IfErr result P

@@ -4,7 +4,8 @@ use Rattle.std.specs.Io.KnownBytes.{Appends}
 use Rattle.pair_colours.specs.Colouring.{PairColouring}
 use Rattle.pair_colours.specs.Closure.{IsClosureOf}
 use Rattle.pair_colours.specs.Naming.{rank_of}
-use Rattle.recolour_bench.specs.History.{History, present}
+use Rattle.recolour_bench.specs.EntryChains.{claim_by}
+use Rattle.recolour_bench.specs.History.{History, present, present_chain}
 use Rattle.recolour_bench.specs.declared.edits.EditFault.{EditFault}
 use Rattle.recolour_bench.specs.Edits as edits
 use Rattle.recolour_bench.specs.Steps as steps
@@ -15,13 +16,14 @@ use Rattle.report_text.specs.Classes.{classes_text_of}
 use Rattle.report_text.specs.Constants.{constants_text_of}
 use Rattle.report_text.specs.Tests.{tests_text_of}
 use Rattle.report_text.specs.Arrays.{array_text_of}
+use Rattle.trace_text.specs.TraceText.{trace_text}
 use Rattle.scheme_tests.specs.declared.properties.SchemeTests.{SchemeTests}
 use Rattle.scheme_tests.specs.Law.{AreAnswers}
 use Rattle.drg_arrays.specs.declared.answer.ArrayAnswer.{ArrayAnswer}
 use Rattle.drg_arrays.specs.Graph.{IsGraphSet}
 use Rattle.drg_arrays.specs.Answer.{IsArrayAnswer}
 use Rattle.script_text.specs.declared.acts.Act.{Act}
-use Rattle.script_text.specs.declared.acts.Act.TheVariants.{Set, Both, Fix, Join, Adopt, Undo, Redo, Show, Raw, Classes, Constants, Tests, Array, Write}
+use Rattle.script_text.specs.declared.acts.Act.TheVariants.{Set, Both, Fix, Join, Adopt, Undo, Redo, Show, Raw, Classes, Constants, Tests, Array, Trace, Write}
 use Rattle.script_text.specs.declared.acts.Line.{Line}
 use Rattle.script_text.specs.declared.acts.GraphForm.{GraphForm}
 use Rattle.script_text.specs.declared.acts.GraphForm.TheVariants.{Graph6, Digraph6}
@@ -74,7 +76,8 @@ WritesGraph K Digraph6 set t =
     (¬ IsColourSet K set × (t ≡ refused_text_of (codes "BadSet")))
     ⊎ (IsColourSet K set × (t ≡ graph_line notes.Digraph6 (digraph6_of K set)))
 
--- t answers a query at h; all queries but `raw` speak of the configuration
+-- t answers a query at h; all queries but `raw` speak of the configuration,
+-- and a trace is the text of the claim that the chain of the present entry leads to it
 abbrev pub Tells : History → Act → List ℕ → Type 0
 Tells h Show t = OfConfiguration h (λ K. t ≡ show_text K)
 Tells h Raw t = t ≡ raw_text (present h)
@@ -82,6 +85,7 @@ Tells h Classes t = OfConfiguration h (λ K. t ≡ classes_text_of K)
 Tells h Constants t = OfConfiguration h (λ K. t ≡ constants_text_of K)
 Tells h Tests t = OfConfiguration h (λ K. (tests : SchemeTests) × AreAnswers K tests × (t ≡ tests_text_of tests))
 Tells h (Array set) t = OfConfiguration h (λ K. AnswersArray K set t)
+Tells h Trace t = OfConfiguration h (λ K. t ≡ trace_text (claim_by (present_chain h) K))
 Tells h (Write form set) t = OfConfiguration h (λ K. WritesGraph K form set t)
 Tells h _ t = ⊥
 

@@ -1,12 +1,24 @@
 -- What holds of the answers of every script.
-use Rattle.std.specs.Prelude.{◌≡◌, ◌≢◌, ℕ, List, All}
+use Rattle.std.specs.Prelude.{◌≡◌, ◌≢◌, ◌⊎◌, ◌≤◌, ℕ, List, All, length, Some}
+use Rattle.std.specs.FinMap.{get}
+use Rattle.scheme_io.specs.Files.{Files}
 use Rattle.pair_colours.specs.Colouring.{PairColouring, IsRawColouring}
-use Rattle.recolour_bench.specs.History.{History, IsHistory, AreAlike}
+use Rattle.pair_colours.specs.Closure.{IsClosureOf}
+use Rattle.trace_text.specs.declared.limits.TheConstants.{MOST_TRACE}
+use Rattle.trace_text.specs.declared.stage_list.Claim.{Claim}
+use Rattle.trace_text.specs.Acceptance as traces
+use Rattle.trace_text.specs.ClaimTexts.{IsTraceText}
+use Rattle.recolour_bench.specs.History.{History, IsHistory, AreAlike, present}
 use Rattle.script_text.specs.declared.acts.Act.TheVariants.{Trace}
 use Rattle.script_text.specs.declared.acts.Line.{Line}
 use Rattle.cohere_inputs.specs.Acts.{AreBuilt}
-use Rattle.cohere_core.specs.Answer.{Runs}
+use Rattle.cohere_inputs.specs.Task.{Check}
+use Rattle.cohere_core.specs.declared.status.Status.{Status}
+use Rattle.cohere_core.specs.declared.status.Status.TheVariants.{Done, NoMemory}
+use Rattle.cohere_core.specs.Answer.{Runs, Tells}
 use Rattle.cohere_core.specs.Output.{ScriptOutput}
+use Rattle.cohere_core.specs.Run.{IsStatusWithoutFaults}
+use Rattle.cohere_core.specs.Agreement.{AgreeLineByLine}
 
 -- a script of acts that are answered has an output over every colouring that starts a history
 abbrev pub OutputExists : Type 0
@@ -15,6 +27,16 @@ OutputExists = (C : PairColouring) (lines : List Line) → IsRawColouring C → 
 -- and its lines lead on from every history
 abbrev pub RunExists : Type 0
 RunExists = (h : History) (lines : List Line) → IsHistory h → AreBuilt lines → (end : History) × (t : List ℕ) × Runs h lines end t
+
+-- the outputs of a script over a colouring agree line by line: they differ in the steps of traces alone
+abbrev pub OutputsAgree : Type 0
+OutputsAgree = (C : PairColouring) (lines : List Line) (t u : List ℕ) → IsRawColouring C → ScriptOutput C lines t → ScriptOutput C lines u → AgreeLineByLine lines t u
+
+-- and so do the answers of lines from alike histories, which lead to alike ones
+abbrev pub RunsAgree : Type 0
+RunsAgree =
+    (h k end other : History) (lines : List Line) (t u : List ℕ) → IsHistory h → IsHistory k → AreAlike h k
+    → Runs h lines end t → Runs k lines other u → AreAlike end other × AgreeLineByLine lines t u
 
 -- no line asks for a trace, whose steps may be chosen
 abbrev pub HasNoTrace : List Line → Type 0
@@ -29,3 +51,22 @@ abbrev pub RunIsUnique : Type 0
 RunIsUnique =
     (h k end other : History) (lines : List Line) (t u : List ℕ) → IsHistory h → IsHistory k → AreAlike h k → HasNoTrace lines
     → Runs h lines end t → Runs k lines other u → AreAlike end other × (t ≡ u)
+
+-- the text is that of an accepted claim that K is the closure of C, and no longer than a trace may be
+pub record ShowsClosure (C K : PairColouring) (text : List ℕ) : Type 0 where
+  pub claim : Claim
+  pub reads : IsTraceText text claim
+  pub accepted : traces.Accepts claim
+  pub claims : claim.closure ≡ K
+  pub closure : IsClosureOf K C
+  pub short : length text ≤ MOST_TRACE
+
+-- each trace that is shown is one of the closure of the present colouring
+abbrev pub TraceShowsClosure : Type 0
+TraceShowsClosure = (h : History) (text : List ℕ) → IsHistory h → Tells h Trace text → (K : PairColouring) × ShowsClosure (present h) K text
+
+-- and a check of a file that holds it, over which no count of faults rises, ends with Done, unless memory is wanting
+abbrev pub TraceIsChecked : Type 0
+TraceIsChecked =
+    (h : History) (text : List ℕ) (files : Files) (name : List ℕ) (status : Status) → IsHistory h → Tells h Trace text → get files name ≡ Some text
+    → IsStatusWithoutFaults (Check name) status (Some files) → (status ≡ Done) ⊎ (status ≡ NoMemory)

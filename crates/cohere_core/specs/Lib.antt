@@ -5,5 +5,6 @@ pub mod Output
 pub mod RunForm
 pub mod CheckForm
 pub mod Run
+pub mod Agreement
 pub mod Law
 pub mod Halt

@@ -1,13 +1,25 @@
 //! Laws over the definitions alone. Each is the contract of a function that does nothing.
 
-ghost use Rattle.cohere_core.specs.Law.{OutputExists, RunExists, OutputIsUnique, RunIsUnique};
+ghost use Rattle.cohere_core.specs.Law.{OutputExists, RunExists, OutputsAgree, RunsAgree, OutputIsUnique, RunIsUnique, TraceShowsClosure, TraceIsChecked};
 
 /// Every script of acts that are answered has an output over every relation, and its lines lead on
-/// from every history, as from the one where a session stopped. Where no line asks for a trace,
-/// there is only one output; alike histories have one text, and lead to alike histories.
+/// from every history, as from the one where a session stopped. Its outputs differ in the steps of
+/// traces alone: answer by answer they are equal, and two traces claim one closure, by chains of the
+/// same colours. Where no line asks for a trace, there is only one output. So too for the answers
+/// from alike histories, which lead to alike histories.
 pub fn outputs()
     ensures exist { OutputExists }
     ensures from_everywhere { RunExists }
+    ensures agree { OutputsAgree }
+    ensures alike { RunsAgree }
     ensures unique { OutputIsUnique }
-    ensures alike { RunIsUnique }
+    ensures alike_unique { RunIsUnique }
+{}
+
+/// Each trace that a script shows is the text of a claim that is accepted, and that claims the
+/// closure of the present colouring. It is within the limit of a trace, so that a check of a file
+/// that holds it ends with `Done`, unless the machine fails.
+pub fn traces()
+    ensures shows { TraceShowsClosure }
+    ensures checked { TraceIsChecked }
 {}

@@ -2,11 +2,13 @@
 
 ghost use Rattle.std.specs.Prelude.{◌≡◌, true, IfOk, None};
 ghost use Rattle.pair_colours.specs.Closure.{IsClosureOf};
-ghost use Rattle.recolour_bench.specs.History.{present};
+ghost use Rattle.recolour_bench.specs.EntryChains.{claim_by};
+ghost use Rattle.recolour_bench.specs.History.{present, present_chain};
 ghost use Rattle.report_text.specs.Matrices.{show_text};
 ghost use Rattle.report_text.specs.Classes.{classes_text_of};
 ghost use Rattle.report_text.specs.Constants.{constants_text_of};
 ghost use Rattle.report_text.specs.Tests.{tests_text_of};
+ghost use Rattle.trace_text.specs.TraceText.{trace_text};
 ghost use Rattle.scheme_tests.specs.declared.properties.SchemeTests.{SchemeTests};
 ghost use Rattle.scheme_tests.specs.Law.{AreAnswers};
 ghost use Rattle.cohere_inputs.specs.Acts.{is_built};
@@ -24,6 +26,7 @@ use scheme_tests::tests;
 use script_text::{Act, GraphForm};
 use std::alloc::Global;
 use struct_consts::Constants;
+use trace_text::write_trace;
 
 // The structure constants of the closure.
 fn constants_of(alloc: Global, bench: &Bench) -> Result<Constants, NoMemory>
@@ -114,6 +117,13 @@ fn written(alloc: Global, bench: &Bench, form: GraphForm, set: &[u32]) -> Result
     }
 }
 
+// The trace of the chain that shows the closure.
+fn traced(alloc: Global, bench: &Bench) -> Result<Vec<u8>, NoMemory>
+    ensures { IfOk result (λ text. OfConfiguration bench.now (λ K. text.items ≡ trace_text (claim_by (present_chain bench.now) K))) }
+{
+    write_trace(alloc, bench.chain(), bench.closure())
+}
+
 /// Answers a query.
 pub(crate) fn query_answer(alloc: Global, bench: &Bench, act: &Act) -> Result<Vec<u8>, NoMemory>
     requires built { is_built act.now ≡ true }
@@ -127,6 +137,7 @@ pub(crate) fn query_answer(alloc: Global, bench: &Bench, act: &Act) -> Result<Ve
         Act::Constants => listed_constants(alloc, bench),
         Act::Tests => listed_tests(alloc, bench),
         Act::Array { set } => array_answer(alloc, bench, set.as_slice()),
+        Act::Trace => traced(alloc, bench),
         Act::Write { form, set } => written(alloc, bench, *form, set.as_slice()),
         _ => unreachable!(),
     }

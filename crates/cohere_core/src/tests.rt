@@ -11,6 +11,7 @@ mod checks;
 mod failures;
 mod limits;
 mod refused;
+mod traces;
 
 fn words_of(alloc: Global, words: &[&str]) -> Result<Vec<String>, AllocError> {
     let mut all = Vec::new(alloc);

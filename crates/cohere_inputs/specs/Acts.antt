@@ -1,7 +1,7 @@
 -- The acts of a script that the program answers.
 use Rattle.std.specs.Prelude.{◌≡◌, All, ℕ, Bool, true, false, not, List, Option, option_map, find}
 use Rattle.script_text.specs.declared.acts.Act.{Act}
-use Rattle.script_text.specs.declared.acts.Act.TheVariants.{Set, Both, Fix, Join, Adopt, Undo, Redo, Show, Raw, Classes, Constants, Tests, Array, Write}
+use Rattle.script_text.specs.declared.acts.Act.TheVariants.{Set, Both, Fix, Join, Adopt, Undo, Redo, Show, Raw, Classes, Constants, Tests, Array, Trace, Write}
 use Rattle.script_text.specs.declared.acts.Line.{Line}
 
 -- the others are read and not yet answered
@@ -19,6 +19,7 @@ is_built Classes = true
 is_built Constants = true
 is_built Tests = true
 is_built (Array set) = true
+is_built Trace = true
 is_built (Write form set) = true
 is_built _ = false
 

@@ -57,6 +57,7 @@ fn has_answer(act: &Act) -> bool
             | Act::Constants
             | Act::Tests
             | Act::Array { .. }
+            | Act::Trace
             | Act::Write { .. }
     )
 }

@@ -49,7 +49,7 @@ const SCRIPTS: [(&[u8], &[u8]); 7] = [
     (b"fix 01\n", b"cohere: S: line 1 BadNumber\n"),
     (b"show\nmergings 0\n", b"cohere: S: line 2 BadLimit\n"),
     (b"direct -\n", b"cohere: S: line 1 BadName\n"),
-    (b"show\n\ntrace\n", b"cohere: S: line 3 NotYet\n"),
+    (b"show\n\ngood\n", b"cohere: S: line 3 NotYet\n"),
 ];
 
 #[test]

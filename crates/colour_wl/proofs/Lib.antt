@@ -3,15 +3,15 @@ pub mod Members
 pub mod Growth
 pub mod Sums
 pub mod Merged
-mod Literals
-mod Existing
-mod Resumed
+pub mod Literals
+pub mod Existing
+pub mod Resumed
 mod Expanded
 mod Sorting
 mod Codes
 mod ForcedRounds
-mod SameStrings
+pub mod SameStrings
 mod Numbered
-mod ColourRounds
+pub mod ColourRounds
 mod Hashes
 mod NamedMerges

@@ -5,3 +5,4 @@ mod Literals
 mod EntryLines
 mod HeadLines
 mod EntryLiterals
+mod OneChange

@@ -17,6 +17,8 @@ use std::test::Fail;
 use struct_consts::Constants;
 use visitors::{Keep, Visitor};
 
+mod cached_rows;
+
 // The configuration with these rows.
 fn configuration(alloc: Global, rows: &[&[u32]]) -> Result<Constants, NoMemory>
     requires has_points { 1 ≤ length rows.now }

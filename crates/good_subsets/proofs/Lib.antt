@@ -1,0 +1,9 @@
+pub mod BlockPlaces
+pub mod StringsOf
+pub mod Deciding
+pub mod ByClosure
+mod GoodTest
+pub mod Blocks
+pub mod MaskBits
+mod GoodMasks
+mod Rows

@@ -1,0 +1,7 @@
+use Rattle.std.proofs.Common.{ℕ, ◌-◌, ◌<◌, ◌≤◌}
+use Rattle.pair_colours.specs.Naming.{rank_of}
+use Rattle.mergings.specs.Searches.{IsHead, IsConstantFrom}
+use Rattle.mergings.proofs.products.are_constant.Given as goal
+
+abbrev pub invariant-loop-step : goal.invariant-loop-step
+invariant-loop-step l = (x : ℕ) → l.rank - l.step ≤ x → x < l.rank → IsHead l.heads l.covered x → IsConstantFrom l.k l.heads l.covered x

@@ -68,8 +68,8 @@ pub fn wreath(alloc: Global, a: &Colouring, b: &Colouring) -> Result<Colouring, 
     Ok(multiplied(alloc, a, b, ProductKind::Wreath)?)
 }
 
-// Whether all diagonal pairs have one colour.
-fn has_one_fibre(colouring: &Colouring) -> bool
+/// Whether all diagonal pairs have one colour.
+pub fn has_one_fibre(colouring: &Colouring) -> bool
     ensures answer { IsTrue result ↔ HasOneFibre colouring.now }
     ensures within { FitsColouring colouring.now }
 {

@@ -1,20 +1,17 @@
 -- Alike histories refuse alike and accept alike, and no move is both accepted and refused.
-use Rattle.std.proofs.Common.{◌≡◌, ◌==◌, ⊎_elim, ◌+◌, ◌++◌, List, [], ◌∷◌, length, get_or, map, take, Some, None, refl, sym, ap, subst, ◌∙◌, arith}
+use Rattle.std.proofs.Common.{ℕ, ◌≡◌, ◌==◌, ⊎_elim, ◌+◌, ◌++◌, List, [], ◌∷◌, length, get_or, map, take, Some, None, refl, sym, ap, subst, ◌∙◌, arith}
 use Rattle.std.proofs.lemmas.List.{length-map, get_or-map, map-append, take-map}
 use Rattle.pair_colours.specs.Colouring.{PairColouring, Refines}
 use Rattle.pair_colours.specs.Closure.{IsClosureOf}
-use Rattle.pair_colours.specs.Tests.{first_that_holds}
-use Rattle.pair_colours.proofs.LawProofs.{named_closure_is_unique}
 use Rattle.trace_text.specs.declared.stage_list.Stage.{Stage}
 use Rattle.trace_text.proofs.Decided.{refines_or_not}
-use Rattle.recolour_bench.specs.declared.edits.EditFault.TheVariants.{HistoryFull}
-use Rattle.recolour_bench.specs.declared.history.TheConstants.{MOST_POSITION}
-use Rattle.recolour_bench.specs.Edits.{Edit}
-use Rattle.recolour_bench.specs.Recolouring.{edited}
+use Rattle.recolour_bench.specs.Edits.{Edit, factor_of}
 use Rattle.recolour_bench.specs.EntryChains.{IsChainOf}
 use Rattle.recolour_bench.specs.History.{Entry, History, IsHistory, IsEntryAfter, AreAlike, no_entry, entry_at, present, colourings_of, stage_colours}
-use Rattle.recolour_bench.specs.Steps.{Move, edits, undoes, redoes, edit_tests, edit_refusal, EditStep, Accepts}
+use Rattle.recolour_bench.specs.Steps.{Move, edits, undoes, redoes, edit_refusal, Makes, IsRefusedAt, EditStep, Accepts}
 use Rattle.recolour_bench.specs.Law.{StartIsUnique, StepIsUnique, NotBoth, RefusalIsUnique, RefusalIsAlike, PresentIsUnique, ChainIsUnique}
+use Rattle.recolour_bench.proofs.OwnClosures.{closure_is_one}
+use Rattle.recolour_bench.proofs.RawEdits.{made_is_unique}
 use Rattle.recolour_bench.proofs.Stepping.{present_is_raw}
 
 -- the colours of the stages of an entry
@@ -67,45 +64,47 @@ after_alike before other entry more C D e present chains a b = ⊎_elim
     (b.starts (λ r. not (subst (Refines C) (sym present) (subst (λ E. Refines E other.colouring) (sym e) r)))))
     (refines_or_not C before.colouring)
 
--- the closure of the present colouring is the only one
-closure_is_one : (h : History) (K L : PairColouring) → IsHistory h → IsClosureOf K (present h) → IsClosureOf L (present h) → K ≡ L
-closure_is_one h K L is k l = named_closure_is_unique (present h) K L (present_is_raw h is).fits.colouring k l
-
 pub refusal_is_alike : RefusalIsAlike
 refusal_is_alike h k (edits e) fault is alike r =
-    let same : present h ≡ present k = present_is_unique h k is alike in
-    let refusal : edit_refusal h r.0 e ≡ edit_refusal k r.0 e = λ i. first_that_holds (edit_tests (same i) r.0 e ++ (alike.position i == MOST_POSITION, HistoryFull) ∷ []) in
-    (r.0, subst (IsClosureOf r.0) same r.1, sym refusal ∙ r.2)
+    subst (λ C. IsRefusedAt C k.position e fault) (present_is_unique h k is alike) (subst (λ position. IsRefusedAt (present h) position e fault) alike.position r)
 refusal_is_alike h k undoes fault is alike r = (r.0, sym alike.position ∙ r.1)
 refusal_is_alike h k redoes fault is alike r = (r.0, ap (λ p. p + 1) (sym alike.position) ∙ r.1 ∙ alike-length h k alike)
 
+-- a colouring and the second factor have one closure each, so the first refusal is one
+refusal_is_one : (C K L M N : PairColouring) (position : ℕ) (e : Edit) → IsClosureOf K C → IsClosureOf M C → IsClosureOf L (factor_of C e) → IsClosureOf N (factor_of C e)
+    → edit_refusal C K L position e ≡ edit_refusal C M N position e
+refusal_is_one C K L M N position e k m l n =
+    let own : K ≡ M = closure_is_one C K M k m in
+    let other : L ≡ N = closure_is_one (factor_of C e) L N l n in
+    λ i. edit_refusal C (own i) (other i) position e
+
 pub refusal_is_unique : RefusalIsUnique
 refusal_is_unique h (edits e) f g is r s =
-    let same : r.0 ≡ s.0 = closure_is_one h r.0 s.0 is r.1 s.1 in
-    let faults : Some f ≡ Some g = sym r.2 ∙ ap (λ K. edit_refusal h K e) same ∙ s.2 in
+    let same = refusal_is_one (present h) r.closure r.factor s.closure s.factor h.position e r.is_closure s.is_closure r.is_factor s.is_factor in
+    let faults : Some f ≡ Some g = sym r.refusal ∙ same ∙ s.refusal in
     cc
 refusal_is_unique h undoes f g is r s = r.0 ∙ sym s.0
 refusal_is_unique h redoes f g is r s = r.0 ∙ sym s.0
 
 pub not_both : NotBoth
 not_both h (edits e) h2 fault is a r =
-    let same : a.0 ≡ r.0 = closure_is_one h a.0 r.0 is a.1.closure r.1 in
-    let z : None ≡ Some fault = sym a.1.allowed ∙ ap (λ K. edit_refusal h K e) same ∙ r.2 in
+    let m = a.makes in
+    let same = refusal_is_one (present h) m.closure m.factor r.closure r.factor h.position e m.is_closure r.is_closure m.is_factor r.is_factor in
+    let z : None ≡ Some fault = sym m.allowed ∙ same ∙ r.refusal in
     cc
 not_both h undoes h2 fault is a r = omega (arith, a.allowed, r.1)
 not_both h redoes h2 fault is a r = omega (arith, a.allowed, r.1)
 
 -- the colourings after an edit
-colourings-edited : (h : History) (e : Edit) (K : PairColouring) (h2 : History) → EditStep h e K h2
-    → colourings_of h2 ≡ take (h.position + 1) (colourings_of h) ++ edited (present h) K e ∷ []
-colourings-edited h e K h2 s =
+colourings-edited : (h : History) (e : Edit) (h2 : History) → (s : EditStep h e h2) → colourings_of h2 ≡ take (h.position + 1) (colourings_of h) ++ s.raw ∷ []
+colourings-edited h e h2 s =
     ap (map (λ entry. entry.colouring)) s.entries ∙ map-append (λ (entry : Entry). entry.colouring) (take (h.position + 1) h.entries) (s.entry ∷ [])
     ∙ (λ i. sym (take-map (λ (entry : Entry). entry.colouring) (h.position + 1) h.entries) i ++ s.made.colouring i ∷ [])
 
 -- the colours of the stages after an edit
-colours-edited : (h : History) (e : Edit) (K : PairColouring) (h2 : History) → (s : EditStep h e K h2)
+colours-edited : (h : History) (e : Edit) (h2 : History) → (s : EditStep h e h2)
     → map colours_of h2.entries ≡ take (h.position + 1) (map colours_of h.entries) ++ colours_of s.entry ∷ []
-colours-edited h e K h2 s =
+colours-edited h e h2 s =
     ap (map colours_of) s.entries ∙ map-append colours_of (take (h.position + 1) h.entries) (s.entry ∷ [])
     ∙ ap (λ lists. lists ++ colours_of s.entry ∷ []) (sym (take-map colours_of (h.position + 1) h.entries))
 
@@ -113,18 +112,19 @@ colours-edited h e K h2 s =
 accepts_alike : (h k : History) (move : Move) (h2 k2 : History) → IsHistory h → AreAlike h k → Accepts h move h2 → Accepts k move k2 → AreAlike h2 k2
 accepts_alike h k (edits e) h2 k2 is alike a b =
     let same : present h ≡ present k = present_is_unique h k is alike in
-    let one : a.0 ≡ b.0 = closure_is_one h a.0 b.0 is a.1.closure (subst (IsClosureOf b.0) (sym same) b.1.closure) in
+    let makes : Makes (present k) k.position e a.raw = subst (λ C. Makes C k.position e a.raw) same (subst (λ position. Makes (present h) position e a.raw) alike.position a.makes) in
+    let raw : a.raw ≡ b.raw = made_is_unique (present k) k.position e a.raw b.raw makes b.makes in
     record {
-      position = a.1.position ∙ ap (λ p. p + 1) alike.position ∙ sym b.1.position;
+      position = a.position ∙ ap (λ p. p + 1) alike.position ∙ sym b.position;
       colourings =
-          colourings-edited h e a.0 h2 a.1
-          ∙ (λ i. take (alike.position i + 1) (alike.colourings i) ++ edited (same i) (one i) e ∷ [])
-          ∙ sym (colourings-edited k e b.0 k2 b.1);
+          colourings-edited h e h2 a
+          ∙ (λ i. take (alike.position i + 1) (alike.colourings i) ++ raw i ∷ [])
+          ∙ sym (colourings-edited k e k2 b);
       chains =
-          colours-edited h e a.0 h2 a.1
+          colours-edited h e h2 a
           ∙ (λ i. take (alike.position i + 1) (alike.chains i)
-          ++ after_alike (entry_at h) (entry_at k) a.1.entry b.1.entry (edited (present h) a.0 e) (edited (present k) b.0 e) (λ j. edited (same j) (one j) e) same (chain_is_unique h k is alike) a.1.made b.1.made i ∷ [])
-          ∙ sym (colours-edited k e b.0 k2 b.1);
+          ++ after_alike (entry_at h) (entry_at k) a.entry b.entry a.raw b.raw raw same (chain_is_unique h k is alike) a.made b.made i ∷ [])
+          ∙ sym (colours-edited k e k2 b);
     }
 accepts_alike h k undoes h2 k2 is alike a b = record {
   position = omega (arith, a.position, b.position, alike.position);

@@ -8,7 +8,6 @@ use Rattle.std.proofs.Math.Seq.{get_or-append_seam}
 use Rattle.pair_colours.specs.Colouring.{PairColouring, IsColouring, IsRawColouring, Refines}
 use Rattle.pair_colours.specs.Closure.{Coherent, IsClosureOf}
 use Rattle.pair_colours.specs.Naming.{named_of}
-use Rattle.pair_colours.specs.Tests.{first_that_holds}
 use Rattle.pair_colours.proofs.Places.{Refines-refl, Refines-trans}
 use Rattle.trace_text.specs.declared.stage_list.Stage.{Stage}
 use Rattle.trace_text.specs.Chains.{stage_start, chain_end}
@@ -19,26 +18,15 @@ use Rattle.trace_text.proofs.Meeting.{IsNamedMeet-unique, IsNamedMeet-meet_of}
 use Rattle.trace_text.proofs.Decided.{refines_or_not}
 use Rattle.wl_refine.specs.Closed.{IsForced}
 use Rattle.recolour_bench.specs.declared.edits.EditFault.{EditFault}
-use Rattle.recolour_bench.specs.declared.edits.EditFault.TheVariants.{HistoryFull}
-use Rattle.recolour_bench.specs.declared.history.TheConstants.{MOST_POSITION}
 use Rattle.recolour_bench.specs.declared.kept.Kept.{Kept}
 use Rattle.recolour_bench.specs.declared.chaining.Made.{Made}
 use Rattle.recolour_bench.specs.Edits.{Edit}
 use Rattle.recolour_bench.specs.EntryChains.{IsChainOf}
-use Rattle.recolour_bench.specs.Recolouring.{edited}
 use Rattle.recolour_bench.specs.History.{Entry, IsEntryAfter, Starts, no_entry, entry_at}
-use Rattle.recolour_bench.specs.Steps.{edits, edit_tests, EditStep, RedoStep, IsRefused}
+use Rattle.recolour_bench.specs.Steps.{edits, Makes, IsRefusedAt, EditStep, RedoStep, IsRefused}
 use Rattle.recolour_bench.specs.Kept.{no_stage, no_kept, entry_kept, history_of, IsKeptOf, IsKeptHistory, IsMadeFrom, IsMadeFromMeet}
 use Rattle.recolour_bench.proofs.Chains.{IsSound, MayGoOn, MayGoOn-none, MayGoOn-sound, IsEnd-sound, IsChainOf-made, chain_end-made, sound_at}
-use Rattle.recolour_bench.proofs.RawEdits.{first_that_holds-append, IsRawColouring-edited}
 use Rattle.recolour_bench.proofs.Stepping.{IsHistory-edited, start_is_history}
-
--- a closure is its own
-pub IsClosureOf-itself : (K C : PairColouring) → IsClosureOf K C → IsClosureOf K K
-IsClosureOf-itself K C k = record {
-  closure = record { colouring = k.closure.colouring; coherent = k.closure.coherent; refines = Refines-refl K; coarsest = λ Q q h r. r };
-  named = k.named;
-}
 
 -- an entry of a stage and of what is kept, of the stages up to here
 abbrev pub entry_by : List Stage → Stage → Kept → Entry
@@ -247,37 +235,24 @@ entries-put stages new kept newer place made l k p q =
     ++ entry-last stages new kept newer place made l k p q i ∷ [])
     ∙ ap (λ entries. entries ++ entry_made stages place made ∷ []) (sym (take-map-range_with_len (entry_kept stages kept) 0 (length stages) (place + 1) (omega (arith, l))))
 
--- where no test holds, the edit is accepted
+-- what an edit makes of the present entry is accepted
 pub EditStep-kept : (stages new : List Stage) (kept newer : List Kept) (position : ℕ) (stage : Stage) (now : Kept) (e : Edit) (raw : PairColouring) (made : Made)
-    → IsPresentEntry stages kept position stage now → first_that_holds (edit_tests stage.colours now.closure e ++ (position == MOST_POSITION, HistoryFull) ∷ []) ≡ None
-    → raw ≡ edited stage.colours now.closure e → IsColouring raw → IsMadeBy stage.colours now position raw made → IsPutAfter position made.stage stages new → IsPutAfter position made.kept kept newer
-    → EditStep (history_of stages kept position) e now.closure (history_of new newer (position + 1))
-EditStep-kept stages new kept newer position stage now e raw made here allowed is c m p q = record {
-  allowed = ap (λ (a : Entry). first_that_holds (edit_tests a.colouring now.closure e ++ (position == MOST_POSITION, HistoryFull) ∷ [])) here.is ∙ allowed;
-  closure = subst (λ (a : Entry). IsClosureOf now.closure a.colouring) (sym here.is) here.of.closure;
+    → IsPresentEntry stages kept position stage now → Makes stage.colours position e raw
+    → IsColouring raw → IsMadeBy stage.colours now position raw made → IsPutAfter position made.stage stages new → IsPutAfter position made.kept kept newer
+    → EditStep (history_of stages kept position) e (history_of new newer (position + 1))
+EditStep-kept stages new kept newer position stage now e raw made here makes c m p q = record {
+  raw = raw;
+  makes = subst (λ (a : Entry). Makes a.colouring position e raw) (sym here.is) makes;
   entry = entry_made stages position made;
-  made =
-      subst (λ (a : Entry). IsEntryAfter a (edited a.colouring now.closure e) (entry_made stages position made)) (sym here.is)
-      (subst (λ C. IsEntryAfter (entry_by (take (position + 1) stages) stage now) C (entry_made stages position made)) is (after-made stages kept position stage now raw made here c m));
+  made = subst (λ (a : Entry). IsEntryAfter a raw (entry_made stages position made)) (sym here.is) (after-made stages kept position stage now raw made here c m);
   entries = entries-put stages new kept newer position made here.low here.low_kept p q;
   position = refl;
 }
 
--- where one holds, it is refused
+-- what is refused at the present entry is refused
 pub IsRefused-kept : (stages : List Stage) (kept : List Kept) (position : ℕ) (stage : Stage) (now : Kept) (e : Edit) (fault : EditFault) → IsPresentEntry stages kept position stage now
-    → first_that_holds (edit_tests stage.colours now.closure e ++ (position == MOST_POSITION, HistoryFull) ∷ []) ≡ Some fault → IsRefused (history_of stages kept position) (edits e) fault
-IsRefused-kept stages kept position stage now e fault here r = (
-  now.closure,
-  subst (λ (a : Entry). IsClosureOf now.closure a.colouring) (sym here.is) here.of.closure,
-  ap (λ (a : Entry). first_that_holds (edit_tests a.colouring now.closure e ++ (position == MOST_POSITION, HistoryFull) ∷ [])) here.is ∙ r,
-)
-
--- what an allowed edit makes is within the limits
-pub IsRawColouring-kept : (stages : List Stage) (kept : List Kept) (position : ℕ) (stage : Stage) (now : Kept) (e : Edit) (raw : PairColouring) → IsPresentEntry stages kept position stage now
-    → first_that_holds (edit_tests stage.colours now.closure e ++ (position == MOST_POSITION, HistoryFull) ∷ []) ≡ None → raw ≡ edited stage.colours now.closure e → IsRawColouring raw
-IsRawColouring-kept stages kept position stage now e raw here allowed is =
-    subst IsRawColouring (sym is)
-    (IsRawColouring-edited stage.colours now.closure e here.sound.raw here.of.closure (first_that_holds-append (edit_tests stage.colours now.closure e) ((position == MOST_POSITION, HistoryFull) ∷ []) allowed).0)
+    → IsRefusedAt stage.colours position e fault → IsRefused (history_of stages kept position) (edits e) fault
+IsRefused-kept stages kept position stage now e fault here r = subst (λ (a : Entry). IsRefusedAt a.colouring position e fault) (sym here.is) r
 
 -- what holds below a place, and at it, holds up to it
 each_more : (P : ℕ → Type 0) (n place : ℕ) → n ≡ place + 1 + 1 → ((i : ℕ) → i < place + 1 → P i) → P (place + 1) → (i : ℕ) → i < n → P i
@@ -285,12 +260,12 @@ each_more P n place e below at i l = ⊎_elim (λ s. subst P (sym s) at) (λ ne.
 
 -- and what is kept is the history after it
 pub IsKeptHistory-edited : (stages new : List Stage) (kept newer : List Kept) (position : ℕ) (stage : Stage) (now : Kept) (e : Edit) (raw : PairColouring) (made : Made)
-    → IsKeptHistory stages kept position → IsPresentEntry stages kept position stage now → EditStep (history_of stages kept position) e now.closure (history_of new newer (position + 1))
+    → IsKeptHistory stages kept position → IsPresentEntry stages kept position stage now → EditStep (history_of stages kept position) e (history_of new newer (position + 1))
     → IsColouring raw → IsMadeBy stage.colours now position raw made → IsPutAfter position made.stage stages new → IsPutAfter position made.kept kept newer
     → IsKeptHistory new newer (position + 1)
 IsKeptHistory-edited stages new kept newer position stage now e raw made k here step c m p q = record {
   lengths = put_len position made.kept kept newer here.low_kept q ∙ sym len;
-  history = IsHistory-edited (history_of stages kept position) e now.closure (history_of new newer (position + 1)) k.history step;
+  history = IsHistory-edited (history_of stages kept position) e (history_of new newer (position + 1)) k.history step;
   starts =
       each_more (λ place. (get_or newer place no_kept).start ≤ place) (length new) position len
       (λ i l. subst (λ (a : Kept). a.start ≤ i) (sym (put_other position made.kept kept newer i no_kept here.low_kept q l)) (k.starts i (omega (arith, l, here.low))))

@@ -1,9 +1,10 @@
 -- The laws of this crate, for the proofs of crates above.
 use Rattle.std.proofs.Common.{refl}
-use Rattle.recolour_bench.specs.Law.{StartExists, StartIsHistory, StartIsUnique, StepExists, StepKeeps, StepIsUnique, NotBoth, RefusalIsUnique, RefusalIsAlike, PresentIsRaw, PresentIsUnique, ChainsAreAccepted, ChainsAreShort, ChainsAreRaw, ChainTextsFit, ChainIsUnique, FixTakesLeast, MostPosition}
+use Rattle.recolour_bench.specs.Law.{StartExists, StartIsHistory, StartIsUnique, StepExists, StepKeeps, StepIsUnique, NotBoth, RefusalIsUnique, RefusalIsAlike, PresentIsRaw, PresentIsUnique, ChainsAreAccepted, ChainsAreShort, ChainsAreRaw, ChainTextsFit, ChainIsUnique, FixTakesLeast, GrowthIsTested, FibresAreTested, MostPosition}
 use Rattle.recolour_bench.proofs.Stepping as stepping
 use Rattle.recolour_bench.proofs.Alike as alike
 use Rattle.recolour_bench.proofs.Showing as showing
+use Rattle.recolour_bench.proofs.EditTests as tests
 use Rattle.recolour_bench.proofs.Unused.{IsLeastUnused-least_unused}
 
 pub start_exists : StartExists
@@ -56,6 +57,12 @@ chain_is_unique = alike.chain_is_unique
 
 pub fix_takes_least : FixTakesLeast
 fix_takes_least C is = IsLeastUnused-least_unused C is.fits.colouring
+
+pub growth_is_tested : GrowthIsTested
+growth_is_tested = tests.growth_is_tested
+
+pub fibres_are_tested : FibresAreTested
+fibres_are_tested = tests.fibres_are_tested
 
 pub most_position : MostPosition
 most_position = refl

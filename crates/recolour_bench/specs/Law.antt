@@ -1,16 +1,18 @@
 -- What holds of histories and their moves.
-use Rattle.std.specs.Prelude.{◌≡◌, ◌+◌, ◌≤◌, length, All}
-use Rattle.pair_colours.specs.Colouring.{PairColouring, IsRawColouring}
+use Rattle.std.specs.Prelude.{◌≡◌, ◌↔◌, ℕ, ◌+◌, ◌≤◌, List, length, All, IsTrue}
+use Rattle.pair_colours.specs.Colouring.{PairColouring, IsColouring, IsRawColouring}
 use Rattle.pair_colours.specs.Closure.{IsClosureOf}
 use Rattle.trace_text.specs.declared.limits.TheConstants.{MOST_TRACE}
 use Rattle.trace_text.specs.Acceptance as traces
 use Rattle.trace_text.specs.TraceText.{trace_text}
+use Rattle.products.specs.Product.{HasOneFibre}
+use Rattle.colour_wl.specs.GrowthStrings.{IsGrowth}
 use Rattle.recolour_bench.specs.declared.edits.EditFault.{EditFault}
 use Rattle.recolour_bench.specs.declared.history.TheConstants.{MOST_POSITION}
 use Rattle.recolour_bench.specs.Recolouring.{IsLeastUnused, least_unused}
 use Rattle.recolour_bench.specs.EntryChains.{claim_by}
 use Rattle.recolour_bench.specs.History.{Entry, History, IsHistory, Starts, AreAlike, present, present_chain, stage_colours}
-use Rattle.recolour_bench.specs.Steps.{Move, Accepts, IsRefused, Step}
+use Rattle.recolour_bench.specs.Steps.{Move, IsRawMove, grows, one_fibre, Accepts, IsRefused, Step}
 
 -- each colouring within the limits starts a history; all that it starts are histories, and alike
 abbrev pub StartExists : Type 0
@@ -22,9 +24,10 @@ StartIsHistory = (C : PairColouring) (h : History) → IsRawColouring C → Star
 abbrev pub StartIsUnique : Type 0
 StartIsUnique = (C : PairColouring) (h k : History) → Starts C h → Starts C k → AreAlike h k
 
--- every move leads from every history to a history; from alike histories it leads to alike ones
+-- every move that names colourings within the limits leads from every history to one; a move leads from a history to a history,
+-- and from alike histories to alike ones
 abbrev pub StepExists : Type 0
-StepExists = (h : History) (move : Move) → IsHistory h → (h2 : History) × Step h move h2
+StepExists = (h : History) (move : Move) → IsRawMove move → IsHistory h → (h2 : History) × Step h move h2
 
 abbrev pub StepKeeps : Type 0
 StepKeeps = (h : History) (move : Move) (h2 : History) → IsHistory h → Step h move h2 → IsHistory h2
@@ -85,3 +88,10 @@ FixTakesLeast = (C : PairColouring) → IsRawColouring C → IsLeastUnused C (le
 -- how far a history goes
 abbrev pub MostPosition : Type 0
 MostPosition = MOST_POSITION ≡ 256
+
+-- the test of a string passes growth strings alone, and the test of fibres colourings with one fibre alone
+abbrev pub GrowthIsTested : Type 0
+GrowthIsTested = (r : ℕ) (a : List ℕ) → IsTrue (grows r a) ↔ IsGrowth r a
+
+abbrev pub FibresAreTested : Type 0
+FibresAreTested = (K : PairColouring) → IsColouring K → IsTrue (one_fibre K) ↔ HasOneFibre K

@@ -1,9 +1,11 @@
 -- What an edit makes of a colouring.
-use Rattle.std.specs.Prelude.{◌==◌, ◌&&◌, ◌||◌, not, ℕ, ◌+◌, ◌*◌, ◌/◌, ◌%◌, ◌<◌, Bool, map, is_some, if◌then◌else◌}
+use Rattle.std.specs.Prelude.{◌≡◌, ◌==◌, ◌&&◌, ◌||◌, not, ℕ, ◌+◌, ◌*◌, ◌/◌, ◌%◌, ◌<◌, Bool, map, is_some, if◌then◌else◌}
 use Rattle.std.specs.List.{position_or_len}
 use Rattle.pair_colours.specs.Colouring.{PairColouring, IsColour, colour_at, points}
 use Rattle.pair_colours.specs.Naming.{first_pair_of}
-use Rattle.recolour_bench.specs.Edits.{Edit, Set, Both, Fix, Join, Adopt}
+use Rattle.products.specs.Product.{DirectProduct, WreathProduct}
+use Rattle.colour_wl.specs.Fusions.{merge}
+use Rattle.recolour_bench.specs.Edits.{Edit, Set, Both, Fix, Join, Adopt, Fuse, Direct, Wreath}
 
 -- some pair of C has the colour
 abbrev pub has_colour : PairColouring → ℕ → Bool
@@ -26,10 +28,13 @@ recoloured C f = record { size = C.size; colours = map (λ place. f (place / C.s
 abbrev pub is_pair : ℕ → ℕ → ℕ → ℕ → Bool
 is_pair x y u v = (u == x) && (v == y)
 
--- what the edit makes of C with the closure K
-abbrev pub edited : PairColouring → PairColouring → Edit → PairColouring
-edited C K (Set x y colour) = recoloured C (λ u v. if is_pair x y u v then colour else colour_at C u v)
-edited C K (Both x y colour) = recoloured C (λ u v. if is_pair x y u v || is_pair y x u v then colour else colour_at C u v)
-edited C K (Fix x) = recoloured C (λ u v. if is_pair x x u v then least_unused C else colour_at C u v)
-edited C K (Join keep gone) = recoloured C (λ u v. if colour_at C u v == gone then keep else colour_at C u v)
-edited C K Adopt = K
+-- the edit makes D of C, where K is the closure of C and L the closure of the second factor of a product
+abbrev pub IsEdited : PairColouring → PairColouring → PairColouring → Edit → PairColouring → Type 0
+IsEdited C K L (Set x y colour) D = D ≡ recoloured C (λ u v. if is_pair x y u v then colour else colour_at C u v)
+IsEdited C K L (Both x y colour) D = D ≡ recoloured C (λ u v. if is_pair x y u v || is_pair y x u v then colour else colour_at C u v)
+IsEdited C K L (Fix x) D = D ≡ recoloured C (λ u v. if is_pair x x u v then least_unused C else colour_at C u v)
+IsEdited C K L (Join keep gone) D = D ≡ recoloured C (λ u v. if colour_at C u v == gone then keep else colour_at C u v)
+IsEdited C K L Adopt D = D ≡ K
+IsEdited C K L (Fuse string) D = D ≡ merge K string
+IsEdited C K L (Direct other) D = DirectProduct K L D
+IsEdited C K L (Wreath other) D = WreathProduct K L D

@@ -1,14 +1,14 @@
 //! The stage and the closure of what an edit made.
 
-ghost use Rattle.std.specs.Prelude.{◌≡◌, ◌+◌, ◌^◌, ◌<◌, ◌↔◌, IsTrue, IfOk};
+ghost use Rattle.std.specs.Prelude.{◌≡◌, ◌+◌, ◌^◌, ◌<◌, ◌↔◌, true, IsTrue, IfOk};
 ghost use Rattle.pair_colours.specs.Colouring.{FitsColouring, Refines};
 ghost use Rattle.pair_colours.specs.Closure.{Coherent, IsClosureOf};
 ghost use Rattle.pair_colours.specs.Naming.{named_of};
-ghost use Rattle.wl_refine.specs.Closed.{IsForced, IsReachedFromMeet};
-ghost use Rattle.recolour_bench.specs.Edits.{Adopt, edit_of};
+ghost use Rattle.wl_refine.specs.Closed.{IsForced, IsReached, IsReachedFromMeet};
+ghost use Rattle.recolour_bench.specs.Edits.{Adopt, edit_of, makes_closure as is_closed};
 ghost use Rattle.recolour_bench.specs.Kept.{IsMadeFrom, IsMadeFromMeet};
 
-use crate::edits::Edit;
+use crate::edits::{Edit, makes_closure};
 use crate::kept::Kept;
 use pair_colours::{Colouring, NoMemory};
 use std::alloc::Global;
@@ -38,14 +38,15 @@ pub(crate) fn chain_goes_on(
     }
 }
 
-// A closure is its own: no step leads to it, from its meet with a colouring of its classes.
-fn adopted(alloc: Global, closure: &Colouring, last: &Colouring) -> Result<Closed, NoMemory>
+// A coherent colouring is its own closure: no step leads to it.
+fn itself(alloc: Global, closure: &Colouring) -> Result<Closed, NoMemory>
     requires coherent { Coherent closure.now }
-    requires finer { Refines closure.now last.now }
     requires named { named_of closure.now ≡ closure.now }
     ensures closure { IfOk result (λ closed. IsClosureOf closed.matrix closure.now) }
-    ensures reached { IfOk result (IsReachedFromMeet closure.now last.now) }
+    ensures reached { IfOk result (IsReached closure.now) }
 {
+    // What is known of the size is kept as a fact about the colouring.
+    let _points = closure.size();
     Ok(Closed {
         matrix: closure.copy(alloc)?,
         last: closure.copy(alloc)?,
@@ -62,13 +63,27 @@ pub(crate) fn closed_on(
 ) -> Result<Closed, NoMemory>
     requires sizes { last.now.size ≡ raw.now.size }
     requires forced { IsForced raw.now last.now }
-    requires adopted { edit_of edit.now ≡ Adopt → IsClosureOf raw.now raw.now }
+    requires closed { is_closed (edit_of edit.now) ≡ true → IsClosureOf raw.now raw.now }
     ensures closure { IfOk result (λ closed. IsClosureOf closed.matrix raw.now) }
     ensures reached { IfOk result (IsReachedFromMeet raw.now last.now) }
 {
-    match edit {
-        Edit::Adopt => adopted(alloc, raw, last),
-        _ => close_from(alloc, raw, last),
+    if makes_closure(edit) {
+        itself(alloc, raw)
+    } else {
+        close_from(alloc, raw, last)
+    }
+}
+
+// The closure of what the edit made, where a chain starts.
+fn closed_anew(alloc: Global, edit: &Edit, raw: &Colouring) -> Result<Closed, NoMemory>
+    requires closed { is_closed (edit_of edit.now) ≡ true → IsClosureOf raw.now raw.now }
+    ensures closure { IfOk result (λ closed. IsClosureOf closed.matrix raw.now) }
+    ensures reached { IfOk result (IsReached (named_of raw.now)) }
+{
+    if makes_closure(edit) {
+        itself(alloc, raw)
+    } else {
+        close(alloc, raw)
     }
 }
 
@@ -122,7 +137,7 @@ pub(crate) fn made_by(
 ) -> Result<Made, NoMemory>
     requires sizes { Refines raw before.now → kept.now.last.size ≡ raw.size }
     requires forced { Refines raw before.now → IsForced raw kept.now.last }
-    requires adopted { edit_of edit.now ≡ Adopt → IsClosureOf raw raw }
+    requires closed { is_closed (edit_of edit.now) ≡ true → IsClosureOf raw raw }
     requires refines { edit_of edit.now ≡ Adopt → Refines raw before.now }
     requires room { place < 2 ^ 32 }
     ensures colours { IfOk result (λ made. made.stage.colours ≡ raw) }
@@ -134,7 +149,7 @@ pub(crate) fn made_by(
         let closed = closed_on(alloc, edit, &raw, &kept.last)?;
         Ok(made_of(raw, closed, kept.start))
     } else {
-        let closed = close(alloc, &raw)?;
+        let closed = closed_anew(alloc, edit, &raw)?;
         Ok(made_of(raw, closed, place + 1))
     }
 }

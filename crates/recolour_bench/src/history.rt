@@ -3,15 +3,14 @@
 ghost use Rattle.std.specs.Prelude.{◌≡◌, ◌≢◌, ◌+◌, ◌≤◌, All, IfOk, IfErr, OnOk, OnErr, length};
 ghost use Rattle.pair_colours.specs.Colouring.{PairColouring, IsRawColouring};
 ghost use Rattle.pair_colours.specs.Closure.{IsClosureOf};
-ghost use Rattle.recolour_bench.specs.Edits.{Adopt, edit_of};
+ghost use Rattle.recolour_bench.specs.Edits.{IsRawEdit, edit_of};
 ghost use Rattle.recolour_bench.specs.History.{IsHistory, Starts, present, present_chain};
 ghost use Rattle.recolour_bench.specs.Steps.{edits, undoes, redoes, Accepts, IsRefused, Step};
 
 use crate::chaining::{Made, made_by, made_first};
 use crate::edits::{Edit, EditFault};
 use crate::kept::{Kept, put_after, stages_from};
-use crate::recolouring::edited_by;
-use crate::refusals::refusal_at;
+use crate::making::next_by;
 use pair_colours::{Colouring, MOST_COLOUR, NoMemory};
 use std::alloc::Global;
 use std::marker::Model;
@@ -110,6 +109,7 @@ impl Bench {
     /// Cuts the later entries, appends what the edit makes of the present colouring, and moves to
     /// it. After any fault the bench is as it was, its later entries too.
     pub fn edit(&mut self, edit: &Edit) -> Result<(), EditFault>
+        requires { IsRawEdit (edit_of edit.now) }
         ensures accepted { OnOk result (Accepts self.old (edits (edit_of edit.now)) self.new) }
         ensures refused { IfErr result (λ fault. fault ≢ EditFault.NoMemory → IsRefused self.old (edits (edit_of edit.now)) fault) }
         ensures unchanged { OnErr result (self.new ≡ self.old) }
@@ -119,10 +119,7 @@ impl Bench {
         let place = self.position as usize;
         let before = &self.stages[place].colours;
         let now = &self.kept[place];
-        if let Some(fault) = refusal_at(before, self.position, edit) {
-            return Err(fault);
-        }
-        let raw = edited_by(self.alloc, before, &now.closure, edit)?;
+        let raw = next_by(self.alloc, before, &now.closure, self.position, edit)?;
         let Made { stage, kept } = made_by(self.alloc, edit, raw, before, now, place)?;
         put_after(&mut self.stages, &mut self.kept, place, stage, kept)?;
         self.position += 1;

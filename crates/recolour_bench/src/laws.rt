@@ -1,6 +1,6 @@
 //! Laws over the definitions alone. Each is the contract of a function that does nothing.
 
-ghost use Rattle.recolour_bench.specs.Law.{StartExists, StartIsHistory, StartIsUnique, StepExists, StepKeeps, StepIsUnique, NotBoth, RefusalIsUnique, RefusalIsAlike, PresentIsRaw, PresentIsUnique, ChainsAreAccepted, ChainsAreShort, ChainsAreRaw, ChainTextsFit, ChainIsUnique, FixTakesLeast, MostPosition};
+ghost use Rattle.recolour_bench.specs.Law.{StartExists, StartIsHistory, StartIsUnique, StepExists, StepKeeps, StepIsUnique, NotBoth, RefusalIsUnique, RefusalIsAlike, PresentIsRaw, PresentIsUnique, ChainsAreAccepted, ChainsAreShort, ChainsAreRaw, ChainTextsFit, ChainIsUnique, FixTakesLeast, GrowthIsTested, FibresAreTested, MostPosition};
 
 /// A colouring within the limits starts a history. All that it starts are alike.
 pub fn starts()
@@ -9,8 +9,8 @@ pub fn starts()
     ensures unique { StartIsUnique }
 {}
 
-/// Every move leads from every history to one, which is a history again. From alike histories it
-/// leads to alike ones, so that all runs along one list of moves have the same colourings, and
+/// Every move leads from every history to one, which is a history again, where the colouring that
+/// it may name is within the limits. From alike histories a move leads to alike ones, so that all runs along one list of moves have the same colourings, and
 /// chains that differ in steps alone.
 pub fn steps()
     ensures exists { StepExists }
@@ -45,6 +45,13 @@ pub fn chains()
 /// The number that `fix` gives a point is the least that no pair has.
 pub fn fix()
     ensures { FixTakesLeast }
+{}
+
+/// The tests that refuse a string pass growth strings alone; those that refuse a wreath product pass
+/// configurations with one fibre alone.
+pub fn tests_of_edits()
+    ensures growth { GrowthIsTested }
+    ensures fibres { FibresAreTested }
 {}
 
 /// A history has at most 257 entries.

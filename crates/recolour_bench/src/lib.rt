@@ -7,6 +7,7 @@
 //! * `chaining`: the closure of what an edit made, and the stage of its chain.
 //! * `refusals`: the tests of an edit, in their order.
 //! * `recolouring`: the colouring that an edit makes.
+//! * `making`: the two together.
 //! * `laws`: what holds of the definitions alone.
 //!
 //! The definitions stand in `specs/`; docs/DEFINITIONS.md has them in words.
@@ -17,6 +18,7 @@ mod edits;
 mod history;
 mod kept;
 pub mod laws;
+mod making;
 mod recolouring;
 mod refusals;
 

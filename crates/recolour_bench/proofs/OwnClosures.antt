@@ -1,0 +1,44 @@
+-- Closures of closures, and of products.
+use Rattle.std.proofs.Common.{◌≡◌}
+use Rattle.pair_colours.specs.Colouring.{PairColouring, IsColouring, Refines}
+use Rattle.pair_colours.specs.Closure.{Coherent, IsClosureOf}
+use Rattle.pair_colours.specs.Naming.{named_of, IsNamedMeet}
+use Rattle.pair_colours.proofs.LawProofs.{named_closure_is_unique}
+use Rattle.pair_colours.proofs.Places.{Refines-refl, Refines-trans}
+use Rattle.wl_refine.specs.Closed.{IsForced}
+
+-- a coherent colouring with the names of the walk is its own closure
+pub IsClosureOf-coherent : (P : PairColouring) → IsColouring P → Coherent P → named_of P ≡ P → IsClosureOf P P
+IsClosureOf-coherent P p coherent named = record {
+  closure = record { colouring = p; coherent = coherent; refines = Refines-refl P; coarsest = λ Q q h r. r };
+  named = named;
+}
+
+-- so is a closure
+pub IsClosureOf-itself : (K C : PairColouring) → IsClosureOf K C → IsClosureOf K K
+IsClosureOf-itself K C k = IsClosureOf-coherent K k.closure.colouring k.closure.coherent k.named
+
+-- whatever C is, it has one closure at most: each is the closure of the other
+pub closure_is_one : (C K L : PairColouring) → IsClosureOf K C → IsClosureOf L C → K ≡ L
+closure_is_one C K L k l = named_closure_is_unique K K L k.closure.colouring (IsClosureOf-itself K C k) other
+  where
+    other : IsClosureOf L K
+    other = record {
+      closure = record {
+        colouring = l.closure.colouring;
+        coherent = l.closure.coherent;
+        refines = k.closure.coarsest L l.closure.colouring l.closure.coherent l.closure.refines;
+        coarsest = λ Q q h r. l.closure.coarsest Q q h (Refines-trans Q K C r k.closure.refines);
+      };
+      named = l.named;
+    }
+
+-- and the named meet of itself with a partition that it must refine
+pub IsNamedMeet-itself : (R last : PairColouring) → IsClosureOf R R → IsForced R last → IsNamedMeet R last R
+IsNamedMeet-itself R last r forced = record {
+  colouring = r.closure.colouring;
+  first = Refines-refl R;
+  second = forced R r.closure.colouring r.closure.coherent (Refines-refl R);
+  together = λ x y u v hx hy hu hv own other. own;
+  named = r.named;
+}

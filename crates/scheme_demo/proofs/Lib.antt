@@ -1,0 +1,4 @@
+mod Filling
+mod DemoRows
+mod DemoScript
+pub mod LawProofs

@@ -1,7 +1,7 @@
 -- Of the files of a task none is bad, or one is the first bad one.
-use Rattle.std.proofs.Common.{◌≡◌, ◌≤◌, ◌⊎◌, ℕ, List, [], ◌∷◌, length, Option, Some, None, refl, sym, ap, subst, ◌∙◌, arith, inl, inr, ⊎_elim}
-use Rattle.std.specs.Prelude.{MatchOption, IsSome, ⊤}
-use Rattle.std.specs.List.{AllByRecursion}
+use Rattle.std.proofs.Common.{◌≡◌, ◌≤◌, ◌⊎◌, ℕ, List, [], ◌∷◌, ◌++◌, length, Option, Some, None, refl, sym, ap, subst, ◌∙◌, arith, inl, inr, ⊎_elim}
+use Rattle.std.specs.Prelude.{MatchOption, IsSome, map, ⊤}
+use Rattle.std.specs.List.{AllByRecursion, AllZip}
 use Rattle.std.specs.FinMap.{get}
 use Rattle.std.proofs.lemmas.Bool.{cases_lt}
 use Rattle.std.proofs.lemmas.Option.{none-some, same_Some, some_pair_parts}
@@ -22,26 +22,23 @@ use Rattle.trace_text.specs.declared.stage_list.Claim.{Claim}
 use Rattle.trace_text.specs.declared.trace_faults.TraceWord.{TraceWord}
 use Rattle.trace_text.proofs.LawProofs as traces
 use Rattle.cohere_inputs.specs.declared.faults.FileFault.{FileFault}
-use Rattle.cohere_inputs.specs.declared.faults.FileFault.TheVariants.{Missing, TooLong, Relation, Script, NotYet, Trace}
-use Rattle.cohere_inputs.specs.Task.{Task, Run, Check}
-use Rattle.cohere_inputs.specs.Acts.{first_unbuilt}
+use Rattle.cohere_inputs.specs.declared.faults.FileFault.TheVariants.{Missing, TooLong, Relation, Script, Trace}
+use Rattle.cohere_inputs.specs.Task.{Task, Run, Check, RunWords}
 use Rattle.cohere_inputs.specs.Kind.{Kind, limit_of}
 use Rattle.cohere_inputs.specs.Kind as kinds
-use Rattle.cohere_inputs.specs.Needs.{Need, named_files}
+use Rattle.cohere_inputs.specs.Needs.{Need, named_files, relation_need, script_need, product_needs}
+use Rattle.cohere_inputs.specs.Products.{products_of}
 use Rattle.cohere_inputs.specs.Texts.{IsText, IsTextFault}
-use Rattle.cohere_inputs.specs.Bad.{HoldsWithin, IsGood, IsTooLong, IsFault, IsReachedIn, IsFirstBad, NoneIsBad}
-use Rattle.cohere_inputs.specs.Law.{NoneOrFirstBad, NoneIsFirst, FirstBadIsUnique}
-use Rattle.cohere_inputs.proofs.BuiltActs.{built_from_none, none_from_built}
+use Rattle.cohere_inputs.specs.Bad.{HoldsWithin, IsGood, IsTooLong, IsFault, IsRelationFile, IsScriptFile, AreProductNeeds, AreLoaded, IsReachedIn, IsFirstBad, NoneIsBad}
+use Rattle.cohere_inputs.specs.Law.{NoneOrFirstBad, NoneIsFirst, FirstBadIsUnique, InputsExist, InputsAreGood}
+use Rattle.cohere_inputs.proofs.ProductFiles.{names_good}
 
 -- ---- one text
 
 -- a text that is what it must be has no fault
 text_has_no_fault : (kind : Kind) (bytes : List ℕ) (fault : FileFault) → IsText kind bytes → IsTextFault kind bytes fault → ⊥
 text_has_no_fault (kinds.Relation line) bytes (Relation what at) good bad = none-some (what, at) (sym (reading_has_no_fault bytes line good.0 good.1) ∙ bad)
-text_has_no_fault kinds.Script bytes (Script line what) good bad = none-some (line, what) (sym (script_has_no_fault bytes good.0 good.1.reads) ∙ bad)
-text_has_no_fault kinds.Script bytes (NotYet line) good bad =
-    let same = script_is_unique bytes good.0 bad.lines good.1.reads bad.reads in
-    none-some line (sym (none_from_built good.0 good.1.built) ∙ ap first_unbuilt same ∙ bad.first)
+text_has_no_fault kinds.Script bytes (Script line what) good bad = none-some (line, what) (sym (script_has_no_fault bytes good.0 good.1) ∙ bad)
 text_has_no_fault kinds.Trace bytes (Trace line what) good bad = none-some (line, what) (sym (traces.reading_has_no_fault bytes good.0 good.1) ∙ bad)
 text_has_no_fault _ bytes _ good bad = absurd bad
 
@@ -54,12 +51,7 @@ text_fault_is_unique (kinds.Relation line) bytes (Relation what at) _ a b = absu
 text_fault_is_unique kinds.Script bytes (Script line what) (Script number word) a b =
     let parts = some_pair_parts line number what word (sym a ∙ b) in
     ap (λ n. Script n what) parts.0 ∙ ap (Script number) parts.1
-text_fault_is_unique kinds.Script bytes (Script line what) (NotYet number) a b = absurd (none-some (line, what) (sym (script_has_no_fault bytes b.lines b.reads) ∙ a))
 text_fault_is_unique kinds.Script bytes (Script line what) _ a b = absurd b
-text_fault_is_unique kinds.Script bytes (NotYet line) (Script number word) a b = absurd (none-some (number, word) (sym (script_has_no_fault bytes a.lines a.reads) ∙ b))
-text_fault_is_unique kinds.Script bytes (NotYet line) (NotYet number) a b =
-    ap NotYet (same_Some line number (sym a.first ∙ ap first_unbuilt (script_is_unique bytes a.lines b.lines a.reads b.reads) ∙ b.first))
-text_fault_is_unique kinds.Script bytes (NotYet line) _ a b = absurd b
 text_fault_is_unique kinds.Trace bytes (Trace line what) (Trace number word) a b =
     let parts = some_pair_parts line number what word (sym a ∙ b) in
     ap (λ n. Trace n what) parts.0 ∙ ap (Trace number) parts.1
@@ -72,11 +64,6 @@ relation_or_fault : (bytes : List ℕ) (line : ℕ) (o : Option (RelationWord ×
     → IsText (kinds.Relation line) bytes ⊎ ((fault : FileFault) × IsTextFault (kinds.Relation line) bytes fault)
 relation_or_fault bytes line None e read = inl read
 relation_or_fault bytes line (Some (what, at)) e read = inr (Relation what at, e)
-
-built_or_not : (bytes : List ℕ) (lines : List Line) → IsScript bytes lines → (o : Option ℕ) → first_unbuilt lines ≡ o
-    → IsText kinds.Script bytes ⊎ ((fault : FileFault) × IsTextFault kinds.Script bytes fault)
-built_or_not bytes lines reads None e = inl (lines, record { reads = reads; built = built_from_none lines e })
-built_or_not bytes lines reads (Some line) e = inr (NotYet line, record { lines = lines; reads = reads; first = e })
 
 script_fault_of : (bytes : List ℕ) (o : Option (ℕ × ScriptWord)) → script_fault bytes ≡ o → IsSome o → (fault : FileFault) × IsTextFault kinds.Script bytes fault
 script_fault_of bytes None e some = absurd cc
@@ -97,7 +84,7 @@ IsCounted kinds.Trace = ⊤
 text_or_fault : (kind : Kind) (bytes : List ℕ) → IsCounted kind → IsText kind bytes ⊎ ((fault : FileFault) × IsTextFault kind bytes fault)
 text_or_fault (kinds.Relation line) bytes counted = relation_or_fault bytes line (relation_fault bytes line) refl (reads_or_fails bytes line counted)
 text_or_fault kinds.Script bytes counted =
-    ⊎_elim (λ (read : (lines : List Line) × IsScript bytes lines). built_or_not bytes read.0 read.1 (first_unbuilt read.0) refl)
+    ⊎_elim (λ (read : (lines : List Line) × IsScript bytes lines). inl read)
     (λ some. inr (script_fault_of bytes (script_fault bytes) refl some)) (script_or_fault bytes)
 text_or_fault kinds.Trace bytes counted = trace_or_fault bytes (trace_fault bytes) refl (traces.trace_reads_or_fails bytes)
 
@@ -195,25 +182,98 @@ same_first_in files (first ∷ rest) need other fault another (inl a) bad (inr b
 same_first_in files (first ∷ rest) need other fault another (inr a) bad (inl b) worse = absurd (good_is_not_bad files first another a.0 (subst (λ n. IsFault files n another) b worse))
 same_first_in files (first ∷ rest) need other fault another (inr a) bad (inr b) worse = same_first_in files rest need other fault another a.1 bad b.1 worse
 
+-- ---- the files of a task
+
+-- a file is one script
+one_script : (files : Files) (name : List ℕ) (lines other : List Line) → IsScriptFile files name lines → IsScriptFile files name other → lines ≡ other
+one_script files name lines other a b =
+    let same = one_text files name b.bytes a.bytes b.file.holds a.file.holds in
+    script_is_unique a.bytes lines other a.reads (subst (λ (t : List ℕ). IsScript t other) same b.reads)
+
+good_script : (files : Files) (name : List ℕ) (lines : List Line) → IsScriptFile files name lines → IsGood files (script_need name)
+good_script files name lines read = record { bytes = read.bytes; file = read.file; text = (lines, read.reads) }
+
+-- each run has its product files
+pub has_products : (files : Files) (run : RunWords) → (products : List Need) × AreProductNeeds files run products
+has_products files run =
+    ⊎_elim
+    (λ good. (product_needs good.text.0, inl (good.text.0, record { bytes = good.bytes; file = good.file; reads = good.text.1 }, refl)))
+    (λ (bad : (fault : FileFault) × IsFault files (script_need run.script) fault). ([], inr (λ good. good_is_not_bad files (script_need run.script) bad.0 good bad.1, refl)))
+    (good_or_fault files (script_need run.script) tt)
+
+-- and only these
+one_products : (files : Files) (run : RunWords) (needs other : List Need) → AreProductNeeds files run needs → AreProductNeeds files run other → needs ≡ other
+one_products files run needs other (inl a) (inl b) = a.2 ∙ ap product_needs (one_script files run.script a.0 b.0 a.1 b.1) ∙ sym b.2
+one_products files run needs other (inl a) (inr b) = absurd (b.0 (good_script files run.script a.0 a.1))
+one_products files run needs other (inr a) (inl b) = absurd (a.0 (good_script files run.script b.0 b.1))
+one_products files run needs other (inr a) (inr b) = a.1 ∙ sym b.1
+
+one_loading : (files : Files) (task : Task) (needs other : List Need) → AreLoaded files task needs → AreLoaded files task other → needs ≡ other
+one_loading files (Run run) needs other a b = a.2 ∙ ap (λ products. named_files (Run run) ++ products) (one_products files run a.0 b.0 a.1 b.1) ∙ sym b.2
+one_loading files (Check trace) needs other a b = a ∙ sym b
+
+-- a product is read at a line
+names_counted : (names : List (List ℕ)) → AllByRecursion (λ need. IsCounted need.kind) (map (λ name. relation_need name 1) names)
+names_counted [] = tt
+names_counted (name ∷ names) = (omega arith, names_counted names)
+
+products_counted : (files : Files) (run : RunWords) (needs : List Need) → AreProductNeeds files run needs → AllByRecursion (λ need. IsCounted need.kind) needs
+products_counted files run needs (inl a) = subst (λ (ns : List Need). AllByRecursion (λ need. IsCounted need.kind) ns) (sym a.2) (names_counted (products_of a.0))
+products_counted files run needs (inr a) = subst (λ (ns : List Need). AllByRecursion (λ need. IsCounted need.kind) ns) (sym a.1) tt
+
 -- ---- a task
 
-of_named : (files : Files) (task : Task) → AllByRecursion (λ need. IsCounted need.kind) (named_files task)
+of_loaded : (files : Files) (task : Task) (needs : List Need) → AreLoaded files task needs → AllByRecursion (λ need. IsCounted need.kind) needs
     → NoneIsBad files task ⊎ ((need : Need) × (fault : FileFault) × IsFirstBad files task need fault)
-of_named files task counted =
-    ⊎_elim (λ good. inl (record { needs = named_files task; loaded = refl; good = good }))
-    (λ (bad : HasFirstBad files (named_files task)). inr (bad.0, bad.1, (record { needs = named_files task; loaded = refl; reached = bad.2 }, bad.3)))
-    (none_or_first_in files (named_files task) counted)
+of_loaded files task needs loaded counted =
+    ⊎_elim (λ good. inl (record { needs = needs; loaded = loaded; good = good }))
+    (λ (bad : HasFirstBad files needs). inr (bad.0, bad.1, (record { needs = needs; loaded = loaded; reached = bad.2 }, bad.3)))
+    (none_or_first_in files needs counted)
 
 pub none_or_first_bad : NoneOrFirstBad
-none_or_first_bad files (Run run) asked = of_named files (Run run) (asked, (tt, tt))
-none_or_first_bad files (Check trace) asked = of_named files (Check trace) (tt, tt)
+none_or_first_bad files (Run run) asked =
+    let products = has_products files run in
+    of_loaded files (Run run) (named_files (Run run) ++ products.0) (products.0, products.1, refl) (asked, (tt, products_counted files run products.0 products.1))
+none_or_first_bad files (Check trace) asked = of_loaded files (Check trace) (named_files (Check trace)) refl (tt, tt)
 
 pub none_is_first : NoneIsFirst
 none_is_first files task need fault good bad =
-    let same = good.loaded ∙ sym bad.0.loaded in
+    let same = one_loading files task good.needs bad.0.needs good.loaded bad.0.loaded in
     none_is_first_in files bad.0.needs need fault (subst (λ (needs : List Need). AllByRecursion (IsGood files) needs) same good.good) bad.0.reached bad.1
 
 pub first_bad_is_unique : FirstBadIsUnique
 first_bad_is_unique files task need other fault another a b =
-    let same = b.0.loaded ∙ sym a.0.loaded in
+    let same = one_loading files task b.0.needs a.0.needs b.0.loaded a.0.loaded in
     same_first_in files a.0.needs need other fault another a.0.reached a.1 (subst (λ (needs : List Need). IsReachedIn files needs other) same b.0.reached) b.1
+
+-- ---- what is read of good files
+
+-- the relations of good product files
+good_products : (files : Files) (names : List (List ℕ)) → AllByRecursion (IsGood files) (map (λ name. relation_need name 1) names)
+    → (products : List PairColouring) × AllZip (λ name C. IsRelationFile files name 1 C) names products
+good_products files [] good = ([], tt)
+good_products files (name ∷ names) good =
+    let rest = good_products files names good.1 in
+    (good.0.text.0 ∷ rest.0, (record { bytes = good.0.bytes; file = good.0.file; reads = good.0.text.1 }, rest.1))
+
+pub inputs_exist : InputsExist
+inputs_exist files run none =
+    let products = none.loaded.0 in
+    let good = subst (λ (needs : List Need). AllByRecursion (IsGood files) needs) none.loaded.2 none.good in
+    let relation : IsRelationFile files run.relation run.line good.0.text.0 = record { bytes = good.0.bytes; file = good.0.file; reads = good.0.text.1 } in
+    ⊎_elim
+    (λ (a : (lines : List Line) × IsScriptFile files run.script lines × (products ≡ product_needs lines)).
+    let rest = good_products files (products_of a.0) (subst (λ (needs : List Need). AllByRecursion (IsGood files) needs) a.2 good.1.1) in
+    (good.0.text.0, a.0, rest.0, record { named = record { relation = relation; script = a.1 }; multiply = rest.1 }))
+    (λ (b : (¬ IsGood files (script_need run.script)) × (products ≡ [])). absurd (b.0 good.1.0))
+    none.loaded.1
+
+pub inputs_are_good : InputsAreGood
+inputs_are_good files run C lines products read = record {
+  needs = named_files (Run run) ++ product_needs lines;
+  loaded = (product_needs lines, inl (lines, read.named.script, refl), refl);
+  good = (
+    record { bytes = read.named.relation.bytes; file = read.named.relation.file; text = (C, read.named.relation.reads) },
+    (good_script files run.script lines read.named.script, names_good files (products_of lines) products read.multiply),
+  );
+}

@@ -1,8 +1,8 @@
 mod Pieces
-mod BuiltActs
 mod ReadFiles
 mod ClaimLength
 mod TraceFiles
-mod RunFiles
+mod ProductFiles
 mod FirstBad
+mod RunFiles
 pub mod LawProofs

@@ -13,7 +13,6 @@ use Rattle.cohere_inputs.specs.declared.faults.FileFault.TheVariants.{Relation}
 use Rattle.script_text.specs.Script.{IsScript}
 use Rattle.script_text.specs.declared.acts.Line.{Line}
 use Rattle.script_text.specs.declared.limits.TheConstants.{MOST_SCRIPT}
-use Rattle.cohere_inputs.specs.Acts.{AreBuilt}
 use Rattle.cohere_inputs.specs.Needs.{relation_need}
 use Rattle.cohere_inputs.specs.Bad.{IsRelationFile, IsScriptFile, IsFault}
 use Rattle.cohere_inputs.specs.Unread.{IsCause, unread_relation}
@@ -40,7 +39,7 @@ relation_cause files name line bytes view NoMemory rose same found short fault =
 
 -- the file that was loaded is the script that was read of it
 pub script_file : (files : Option Files) (name bytes view : List ℕ) (lines : List Line) → view ≡ bytes → Holds files name bytes → length bytes ≤ MOST_SCRIPT
-    → IsScript view lines → AreBuilt lines → IfSome files (λ files. IsScriptFile files name lines)
-script_file None name bytes view lines same found short read built = tt
-script_file (Some files) name bytes view lines same found short read built =
-    record { bytes = bytes; file = record { holds = found; short = short }; reads = record { reads = subst (λ (b : List ℕ). IsScript b lines) same read; built = built } }
+    → IsScript view lines → IfSome files (λ files. IsScriptFile files name lines)
+script_file None name bytes view lines same found short read = tt
+script_file (Some files) name bytes view lines same found short read =
+    record { bytes = bytes; file = record { holds = found; short = short }; reads = subst (λ (b : List ℕ). IsScript b lines) same read }

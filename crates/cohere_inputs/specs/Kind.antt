@@ -8,7 +8,7 @@ use Rattle.trace_text.specs.declared.limits.TheConstants.{MOST_TRACE}
 pub data Kind : Type 0 where
   -- a relation that begins on this line
   Relation : ℕ → Kind
-  -- a script of acts that are answered
+  -- a script
   Script : Kind
   -- a trace
   Trace : Kind

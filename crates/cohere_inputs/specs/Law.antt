@@ -1,8 +1,11 @@
 -- What holds of the files of every task: none is bad, or there is exactly one first bad one, with one fault.
-use Rattle.std.specs.Prelude.{◌≡◌, ◌⊎◌}
+use Rattle.std.specs.Prelude.{◌≡◌, ◌⊎◌, List}
 use Rattle.scheme_io.specs.Files.{Files}
 use Rattle.cohere_inputs.specs.declared.faults.FileFault.{FileFault}
-use Rattle.cohere_inputs.specs.Task.{Task, IsAsked}
+use Rattle.cohere_inputs.specs.Task.{Task, Run, RunWords, IsAsked}
+use Rattle.pair_colours.specs.Colouring.{PairColouring}
+use Rattle.script_text.specs.declared.acts.Line.{Line}
+use Rattle.cohere_inputs.specs.RunForm.{AreRunInputs}
 use Rattle.cohere_inputs.specs.Needs.{Need}
 use Rattle.cohere_inputs.specs.Bad.{IsFirstBad, NoneIsBad}
 
@@ -18,3 +21,13 @@ NoneIsFirst = (files : Files) (task : Task) (need : Need) (fault : FileFault) �
 abbrev pub FirstBadIsUnique : Type 0
 FirstBadIsUnique = (files : Files) (task : Task) (need other : Need) (fault another : FileFault)
     → IsFirstBad files task need fault → IsFirstBad files task other another → (need ≡ other) × (fault ≡ another)
+
+-- where no file of a run is bad, they are its inputs
+abbrev pub InputsExist : Type 0
+InputsExist = (files : Files) (run : RunWords) → NoneIsBad files (Run run)
+    → (C : PairColouring) × (lines : List Line) × (products : List PairColouring) × AreRunInputs files run C lines products
+
+-- and where they are its inputs, none is bad
+abbrev pub InputsAreGood : Type 0
+InputsAreGood = (files : Files) (run : RunWords) (C : PairColouring) (lines : List Line) (products : List PairColouring)
+    → AreRunInputs files run C lines products → NoneIsBad files (Run run)

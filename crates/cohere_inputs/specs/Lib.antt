@@ -3,7 +3,7 @@ pub mod RunForm
 pub mod CheckForm
 pub mod Words
 pub mod Asked
-pub mod Acts
+pub mod Products
 pub mod Kind
 pub mod Needs
 pub mod Texts

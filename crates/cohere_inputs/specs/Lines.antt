@@ -1,7 +1,7 @@
 -- The lines on standard error.
 use Rattle.std.specs.Prelude.{ℕ, List, ◌++◌, codes, decimal}
 use Rattle.cohere_inputs.specs.declared.faults.FileFault.{FileFault}
-use Rattle.cohere_inputs.specs.declared.faults.FileFault.TheVariants.{Missing, TooLong, Relation, Script, NotYet, Trace}
+use Rattle.cohere_inputs.specs.declared.faults.FileFault.TheVariants.{Missing, TooLong, Relation, Script, Trace}
 use Rattle.cohere_inputs.specs.declared.faults.Unread.{Unread}
 use Rattle.cohere_inputs.specs.declared.faults.Unread.TheVariants.{Bad, StoreFailed, NoMemory}
 use Rattle.relation_text.specs.RelationWord.{relation_word}
@@ -33,7 +33,6 @@ fault_line name Missing = unread_line name
 fault_line name TooLong = too_long_line name
 fault_line name (Relation what at) = place_line name (relation_word what) at
 fault_line name (Script line what) = numbered_line name line (script_word what)
-fault_line name (NotYet line) = numbered_line name line (codes "NotYet")
 fault_line name (Trace line what) = numbered_line name line (trace_word what)
 
 -- what is said of a file that was not read

@@ -1,9 +1,10 @@
 -- The files that are loaded for a task.
-use Rattle.std.specs.Prelude.{◌≡◌, ℕ, List, [], ◌∷◌}
-use Rattle.scheme_io.specs.Files.{Files}
+use Rattle.std.specs.Prelude.{ℕ, List, [], ◌∷◌, map}
+use Rattle.script_text.specs.declared.acts.Line.{Line}
 use Rattle.cohere_inputs.specs.Task.{Task, Run, Check}
 use Rattle.cohere_inputs.specs.Kind.{Kind}
 use Rattle.cohere_inputs.specs.Kind as kinds
+use Rattle.cohere_inputs.specs.Products.{products_of}
 
 -- a file that is loaded: its name, and what it must hold
 pub record Need : Type 0 where
@@ -25,6 +26,6 @@ abbrev pub named_files : Task → List Need
 named_files (Run run) = relation_need run.relation run.line ∷ script_need run.script ∷ []
 named_files (Check trace) = trace_need trace ∷ []
 
--- the files that are loaded for the task, in order
-abbrev pub AreLoaded : Files → Task → List Need → Type 0
-AreLoaded files task needs = needs ≡ named_files task
+-- the files by which the lines of a script multiply, in order: each must hold a relation at line 1
+abbrev pub product_needs : List Line → List Need
+product_needs lines = map (λ name. relation_need name 1) (products_of lines)

@@ -10,33 +10,20 @@ use Rattle.trace_text.specs.declared.stage_list.Claim.{Claim}
 use Rattle.trace_text.specs.ClaimTexts.{IsTraceText}
 use Rattle.trace_text.specs.TraceFault.{trace_fault}
 use Rattle.cohere_inputs.specs.declared.faults.FileFault.{FileFault}
-use Rattle.cohere_inputs.specs.declared.faults.FileFault.TheVariants.{Missing, TooLong, Relation, Script, NotYet, Trace}
-use Rattle.cohere_inputs.specs.Acts.{AreBuilt, first_unbuilt}
+use Rattle.cohere_inputs.specs.declared.faults.FileFault.TheVariants.{Missing, TooLong, Relation, Script, Trace}
 use Rattle.cohere_inputs.specs.Kind.{Kind}
 use Rattle.cohere_inputs.specs.Kind as kinds
-
--- the text is this script, and every act of it is one that is answered
-pub record IsBuiltScript (text : List ℕ) (lines : List Line) : Type 0 where
-  pub reads : IsScript text lines
-  pub built : AreBuilt lines
 
 -- the bytes are what a file of this kind must hold
 abbrev pub IsText : Kind → List ℕ → Type 0
 IsText (kinds.Relation line) bytes = (C : PairColouring) × IsRelationText bytes line C
-IsText kinds.Script bytes = (lines : List Line) × IsBuiltScript bytes lines
+IsText kinds.Script bytes = (lines : List Line) × IsScript bytes lines
 IsText kinds.Trace bytes = (claim : Claim) × IsTraceText bytes claim
-
--- the text is a script, and the act of this line is the first that is not answered yet
-pub record IsUnbuiltScript (text : List ℕ) (line : ℕ) : Type 0 where
-  pub lines : List Line
-  pub reads : IsScript text lines
-  pub first : first_unbuilt lines ≡ Some line
 
 -- the bytes are not what a file of this kind must hold, for this reason
 abbrev pub IsTextFault : Kind → List ℕ → FileFault → Type 0
 IsTextFault (kinds.Relation line) bytes (Relation what at) = relation_fault bytes line ≡ Some (what, at)
 IsTextFault kinds.Script bytes (Script line what) = script_fault bytes ≡ Some (line, what)
-IsTextFault kinds.Script bytes (NotYet line) = IsUnbuiltScript bytes line
 IsTextFault kinds.Trace bytes (Trace line what) = trace_fault bytes ≡ Some (line, what)
 IsTextFault _ _ _ = ⊥
 
@@ -46,6 +33,5 @@ CanBe _ Missing = ⊤
 CanBe _ TooLong = ⊤
 CanBe (kinds.Relation line) (Relation what at) = ⊤
 CanBe kinds.Script (Script line what) = ⊤
-CanBe kinds.Script (NotYet line) = ⊤
 CanBe kinds.Trace (Trace line what) = ⊤
 CanBe _ _ = ⊥

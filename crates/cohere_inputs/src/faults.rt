@@ -3,6 +3,7 @@
 use relation_text::{RelationFault, RelationWord};
 use scheme_io::LoadFault;
 use script_text::{ScriptFault, ScriptWord};
+use std::alloc::AllocFailed;
 use trace_text::{TraceFault, TraceWord};
 
 /// Why a file is bad.
@@ -16,8 +17,6 @@ pub enum FileFault {
     Relation { what: RelationWord, at: u32 },
     /// Its text is no script; lines count from 1.
     Script { line: u32, what: ScriptWord },
-    /// It is a script, and the act of this line is not answered yet.
-    NotYet { line: u32 },
     /// Its text is no trace: what was expected on this line, counted from 1.
     Trace { line: u32, what: TraceWord },
 }
@@ -55,6 +54,17 @@ impl From<LoadFault> for Unread {
             LoadFault::TooLong { taken: _ } => Unread::Bad(FileFault::TooLong),
             LoadFault::NoMemory => Unread::NoMemory,
         }
+    }
+}
+
+impl<T: Drop> From<AllocFailed<T>> for Unread {
+    ghost use Rattle.std.specs.Prelude.{◌≡◌};
+    ghost use Rattle.cohere_inputs.specs.declared.faults.Unread.TheVariants.{NoMemory};
+
+    ghost from_gives = { λ _ why. why ≡ NoMemory };
+
+    fn from(_error: AllocFailed<T>) -> Unread {
+        Unread::NoMemory
     }
 }
 

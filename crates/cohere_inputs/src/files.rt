@@ -1,20 +1,20 @@
 //! A file that holds a relation, a script or a trace.
 
-ghost use Rattle.std.specs.Prelude.{◌≡◌, ◌^◌, ◌<◌, ◌≤◌, length, IfOk, IfErr, IfSome};
+ghost use Rattle.std.specs.Prelude.{◌≡◌, ◌^◌, ◌<◌, ◌≤◌, length, All, IfOk, IfErr, IfSome};
 ghost use Rattle.scheme_io.specs.Count.{Rose};
 ghost use Rattle.pair_colours.specs.Colouring.{IsRawColouring};
+ghost use Rattle.script_text.specs.Script.{KeepsLimit};
 ghost use Rattle.trace_text.specs.BadLines.{line_count};
-ghost use Rattle.cohere_inputs.specs.Acts.{is_built, AreBuilt, first_unbuilt};
 ghost use Rattle.cohere_inputs.specs.Bad.{IsRelationFile, IsScriptFile, IsTraceFile};
 ghost use Rattle.cohere_inputs.specs.Kind as kinds;
 ghost use Rattle.cohere_inputs.specs.Needs.{relation_need, script_need, trace_need};
-ghost use Rattle.cohere_inputs.specs.Unread.{IsCause, IsUnreadAs};
+ghost use Rattle.cohere_inputs.specs.Unread.{IsCause, IsUnreadAs, IsSomeScript};
 
-use crate::faults::{FileFault, Unread};
+use crate::faults::Unread;
 use pair_colours::Colouring;
 use relation_text::{MOST_RELATION, read_relation};
 use scheme_io::{Store, load};
-use script_text::{Act, Line, MOST_SCRIPT, read_script};
+use script_text::{Line, MOST_SCRIPT, read_script};
 use std::alloc::Global;
 use trace_text::{Claim, MOST_TRACE, read_trace};
 
@@ -38,40 +38,6 @@ pub(crate) fn relation_in<S: Store>(
     Ok(read_relation(alloc, &bytes, line)?)
 }
 
-// Whether the act is one that is answered.
-fn has_answer(act: &Act) -> bool
-    ensures { result ≡ is_built act.now }
-{
-    matches!(
-        act,
-        Act::Set { .. }
-            | Act::Both { .. }
-            | Act::Fix { .. }
-            | Act::Join { .. }
-            | Act::Adopt
-            | Act::Undo
-            | Act::Redo
-            | Act::Show
-            | Act::Raw
-            | Act::Classes
-            | Act::Constants
-            | Act::Tests
-            | Act::Array { .. }
-            | Act::Trace
-            | Act::Write { .. }
-    )
-}
-
-// The number of the first line whose act is not answered yet.
-fn unbuilt_line(lines: &[Line]) -> Option<u32>
-    ensures { result ≡ first_unbuilt lines.now }
-{
-    lines
-        .iter()
-        .find(|line| !has_answer(&line.act))
-        .map(|line| line.number)
-}
-
 /// Loads the file of a script, and reads it.
 pub(crate) fn script_in<S: Store>(
     alloc: Global,
@@ -80,18 +46,15 @@ pub(crate) fn script_in<S: Store>(
 ) -> Result<Vec<Line>, Unread>
     ensures same_files { S.files store.new ≡ S.files store.old }
     ensures later { S.faults store.old ≤ S.faults store.new }
-    ensures built { IfOk result (λ lines. AreBuilt lines.items) }
+    ensures text { IfOk result (λ lines. IsSomeScript lines.items) }
+    ensures limits { IfOk result (λ lines. All (λ line. KeepsLimit line.act) lines.items) }
     ensures read { IfOk result (λ lines. IfSome (S.files store.old) (λ files. IsScriptFile files name.now lines.items)) }
     ensures cause { IfErr result (λ why.
         IsCause (S.files store.old) (script_need name.now) why (Rose (S.faults store.old) (S.faults store.new))) }
     ensures form { IfErr result (IsUnreadAs kinds.Script) }
 {
     let bytes = load(alloc, store, name, MOST_SCRIPT)?;
-    let lines = read_script(alloc, &bytes)?;
-    match unbuilt_line(&lines) {
-        Some(line) => Err(Unread::Bad(FileFault::NotYet { line })),
-        None => Ok(lines),
-    }
+    Ok(read_script(alloc, &bytes)?)
 }
 
 /// Loads the file of a trace, and reads it.

@@ -3,6 +3,7 @@
 //!
 //! * `words`: what the words ask for; `run_form`, `check_form`: the words of each form, and its files.
 //! * `files`: a file that holds a relation, a script or a trace, and `faults`: why it is not read.
+//! * `products`: the files by which the lines of a script multiply.
 //! * `saying`: the lines on standard error.
 //! * `laws`: of the files of a task none is bad, or one is the first bad one.
 //!
@@ -15,8 +16,11 @@ mod check_form;
 mod faults;
 mod files;
 pub mod laws;
+mod products;
 mod run_form;
 mod saying;
+#[cfg(test)]
+mod tests;
 mod words;
 
 pub use check_form::check_input;

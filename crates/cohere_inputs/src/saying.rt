@@ -94,7 +94,6 @@ fn say_fault<E: Sink>(err: &mut E, name: &str, fault: FileFault)
         FileFault::TooLong => say_too_long(err, name.as_bytes()),
         FileFault::Relation { what, at } => say_place(err, name, what.as_str().as_bytes(), at),
         FileFault::Script { line, what } => say_line(err, name, line, what.as_str().as_bytes()),
-        FileFault::NotYet { line } => say_line(err, name, line, b"NotYet"),
         FileFault::Trace { line, what } => say_line(err, name, line, what.as_str().as_bytes()),
     }
 }

@@ -18,7 +18,7 @@ use Rattle.trace_check.specs.declared.verdicts.Verdict.{Verdict}
 use Rattle.trace_check.specs.declared.verdicts.Verdict.TheVariants.{Accepted, Refused}
 use Rattle.trace_check.specs.Verdict.{IsAccepted, IsVerdict}
 use Rattle.report_text.specs.Verdicts.{accepted_text_of, bad_line_text_of, verdict_text_of}
-use Rattle.cohere_inputs.specs.declared.faults.FileFault.TheVariants.{Missing, TooLong, Relation, Script, NotYet, Trace}
+use Rattle.cohere_inputs.specs.declared.faults.FileFault.TheVariants.{Missing, TooLong, Relation, Script, Trace}
 use Rattle.cohere_inputs.specs.declared.faults.Unread.{Unread}
 use Rattle.cohere_inputs.specs.declared.faults.Unread.TheVariants.{Bad, StoreFailed, NoMemory}
 use Rattle.cohere_inputs.specs.Task.{Check}
@@ -84,7 +84,6 @@ halted_output (Some files) trace (Bad Missing) w = Keeps-refl w
 halted_output (Some files) trace (Bad TooLong) w = Keeps-refl w
 halted_output (Some files) trace (Bad (Relation what at)) w = Keeps-refl w
 halted_output (Some files) trace (Bad (Script at what)) w = Keeps-refl w
-halted_output (Some files) trace (Bad (NotYet at)) w = Keeps-refl w
 halted_output (Some files) trace (Bad (Trace at what)) w = Keeps-refl w
 halted_output (Some files) trace StoreFailed w = Keeps-refl w
 halted_output (Some files) trace NoMemory w = nothing_yet files trace w

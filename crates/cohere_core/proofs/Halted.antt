@@ -3,7 +3,7 @@ use Rattle.std.proofs.Common.{◌⊎◌, ℕ, List, Option, Some, None, refl, ap
 use Rattle.std.specs.Prelude.{◌≢◌, IsSome, IfSome}
 use Rattle.scheme_io.specs.Files.{Files, IsMissing}
 use Rattle.cohere_inputs.specs.declared.faults.FileFault.{FileFault}
-use Rattle.cohere_inputs.specs.declared.faults.FileFault.TheVariants.{Missing, TooLong, Relation, Script, NotYet, Trace}
+use Rattle.cohere_inputs.specs.declared.faults.FileFault.TheVariants.{Missing, TooLong, Relation, Script, Trace}
 use Rattle.cohere_inputs.specs.declared.faults.Unread.{Unread}
 use Rattle.cohere_inputs.specs.declared.faults.Unread.TheVariants.{Bad, StoreFailed, NoMemory}
 use Rattle.cohere_inputs.specs.Task.{Task}
@@ -38,7 +38,6 @@ halted_line files task name (Bad Missing) rose says h said = says_unread files t
 halted_line files task name (Bad TooLong) rose says h said = says_bad files task name TooLong rose says (λ e. cc) h said
 halted_line files task name (Bad (Relation what at)) rose says h said = says_bad files task name (Relation what at) rose says (λ e. cc) h said
 halted_line files task name (Bad (Script line what)) rose says h said = says_bad files task name (Script line what) rose says (λ e. cc) h said
-halted_line files task name (Bad (NotYet line)) rose says h said = says_bad files task name (NotYet line) rose says (λ e. cc) h said
 halted_line files task name (Bad (Trace line what)) rose says h said = says_bad files task name (Trace line what) rose says (λ e. cc) h said
 halted_line files task name StoreFailed rose says h said = says_unread files task name StoreFailed rose says h (inl h.cause) said
 halted_line files task name NoMemory rose says h said = tt

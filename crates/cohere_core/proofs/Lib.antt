@@ -1,3 +1,8 @@
+mod ClosedLists
+mod Divisions
+mod FusionAnswers
+mod ActLemmas
+mod ProductLists
 mod Runs
 mod OneOutput
 mod ShownTraces

@@ -1,11 +1,12 @@
 -- From alike histories the lines of a script have answers that agree line by line, and lead to alike histories.
-use Rattle.std.proofs.Common.{◌≡◌, ◌⊎◌, ℕ, Bool, true, false, List, [], ◌∷◌, ◌++◌, Option, Some, None, ⊎_elim, refl, sym, ap, subst, ◌∙◌, inl, suc, arith}
+use Rattle.std.proofs.Common.{◌≡◌, ◌⊎◌, ℕ, Bool, true, false, List, [], ◌∷◌, ◌++◌, Some, None, ⊎_elim, refl, sym, ap, subst, ◌∙◌, inl, suc, arith}
 use Rattle.std.proofs.lemmas.Option.{none-some}
 use Rattle.std.specs.Prelude.{◌≢◌, ◌↔◌, IsTrue, MatchOption}
 use Rattle.pair_colours.specs.Colouring.{PairColouring}
 use Rattle.pair_colours.specs.Closure.{IsClosureOf}
 use Rattle.pair_colours.specs.Naming.{rank_of}
-use Rattle.pair_colours.proofs.LawProofs.{named_closure_is_unique}
+use Rattle.pair_colours.proofs.LawProofs.{named_closure_is_unique, closure_is_raw}
+use Rattle.struct_consts.specs.ClassData.{IsConfiguration}
 use Rattle.recolour_bench.specs.EntryChains.{claim_by}
 use Rattle.recolour_bench.specs.History.{History, IsHistory, AreAlike, present, present_chain}
 use Rattle.recolour_bench.specs.declared.edits.EditFault.{EditFault}
@@ -23,13 +24,19 @@ use Rattle.scheme_tests.specs.declared.properties.SchemeTests.{SchemeTests}
 use Rattle.scheme_tests.specs.Law.{AreAnswers}
 use Rattle.drg_arrays.proofs.LawProofs.{answer_is_unique}
 use Rattle.script_text.specs.declared.acts.Act.{Act}
-use Rattle.script_text.specs.declared.acts.Act.TheVariants.{Trace, Show, Raw, Classes, Constants, Tests, Array, Write}
+use Rattle.script_text.specs.declared.acts.Act.TheVariants.{Closed, Quotient, Sub, Close, Good, Mergings, Trace, Show, Raw, Classes, Constants, Tests, Array, Write}
 use Rattle.script_text.specs.declared.acts.Line.{Line}
 use Rattle.script_text.specs.declared.acts.GraphForm.{GraphForm}
 use Rattle.script_text.specs.declared.acts.GraphForm.TheVariants.{Graph6, Digraph6}
-use Rattle.cohere_core.specs.Answer.{AnswersArray, Runs, WritesGraph, OfConfiguration, IsAccepted, Moves, Tells, Answers, move_of}
+use Rattle.cohere_core.specs.ClosedSubsets.{ListsClosed, AnswersQuotient, AnswersSub}
+use Rattle.cohere_core.specs.Fusions.{AnswersClose, ListsGood, AnswersMergings}
+use Rattle.cohere_core.proofs.ClosedLists.{one_closed}
+use Rattle.cohere_core.proofs.Divisions.{one_quotient, one_sub}
+use Rattle.cohere_core.proofs.FusionAnswers.{one_close, one_good, one_mergings}
+use Rattle.cohere_core.specs.Answer.{AnswersArray, WritesGraph, OfConfiguration, IsAccepted, Moves, Tells, Answers, move_of}
 use Rattle.cohere_core.specs.Agreement.{Agree, AgreeLineByLine, AreTracesOfOne}
 use Rattle.cohere_core.specs.Law.{HasNoTrace, OutputsAgree, RunsAgree, OutputIsUnique, RunIsUnique}
+use Rattle.cohere_core.specs.Products.{left_by}
 use Rattle.cohere_core.proofs.Runs.{answer_keeps}
 
 -- ---- one answer of a query
@@ -45,6 +52,16 @@ one_text : (h k : History) (P : PairColouring → List ℕ → Type 0) (t u : Li
 one_text h k P t u i alike one a b =
     let same = one_configuration h k a.configuration b.configuration i alike a.closure b.closure in
     one a.configuration a.holds (subst (λ (K : PairColouring). P K u) same b.holds)
+
+-- which is a configuration
+is_configuration : (h : History) (K : PairColouring) → IsHistory h → IsClosureOf K (present h) → IsConfiguration K
+is_configuration h K i is = record { fits = (closure_is_raw (present h) K (present_is_raw h i) is).fits; coherent = is.closure.coherent; named = is.named }
+
+one_configured : (h k : History) (P : PairColouring → List ℕ → Type 0) (t u : List ℕ) → IsHistory h → AreAlike h k
+    → ((K : PairColouring) → IsConfiguration K → P K t → P K u → t ≡ u) → OfConfiguration h (λ K. P K t) → OfConfiguration k (λ K. P K u) → t ≡ u
+one_configured h k P t u i alike one a b =
+    let same = one_configuration h k a.configuration b.configuration i alike a.closure b.closure in
+    one a.configuration (is_configuration h a.configuration i a.closure) a.holds (subst (λ (K : PairColouring). P K u) same b.holds)
 
 one_boolean : (a b : Bool) (P : Type 0) → (IsTrue a ↔ P) → (IsTrue b ↔ P) → a ≡ b
 one_boolean true true P f g = refl
@@ -96,6 +113,12 @@ one_query h k Tests t u i alike n a b =
     one_text h k (λ K t. (tests : SchemeTests) × AreAnswers K tests × (t ≡ tests_text_of tests)) t u i alike
     (λ K x y. x.2 ∙ ap tests_text_of (one_tests K x.0 y.0 x.1 y.1) ∙ sym y.2) a b
 one_query h k (Array set) t u i alike n a b = one_text h k (λ K t. AnswersArray K set t) t u i alike (λ K x y. one_array K set t u x y) a b
+one_query h k Closed t u i alike n a b = one_text h k (λ K t. ListsClosed K t) t u i alike (λ K x y. one_closed K t u x y) a b
+one_query h k (Quotient set) t u i alike n a b = one_text h k (λ K t. AnswersQuotient K set t) t u i alike (λ K x y. one_quotient K set t u x y) a b
+one_query h k (Sub point set) t u i alike n a b = one_text h k (λ K t. AnswersSub K point set t) t u i alike (λ K x y. one_sub K point set t u x y) a b
+one_query h k (Close string) t u i alike n a b = one_configured h k (λ K t. AnswersClose K string t) t u i alike (λ K is x y. one_close K is string t u x y) a b
+one_query h k Good t u i alike n a b = one_text h k (λ K t. ListsGood K t) t u i alike (λ K x y. one_good K t u x y) a b
+one_query h k (Mergings most after) t u i alike n a b = one_text h k (λ K t. AnswersMergings K most after t) t u i alike (λ K x y. one_mergings K most after t u x y) a b
 one_query h k (Write form set) t u i alike n a b = one_text h k (λ K t. WritesGraph K form set t) t u i alike (λ K x y. one_graph K form set t u x y) a b
 one_query h k Trace t u i alike n a b = absurd (n refl)
 one_query h k act t u i alike n a b = absurd a
@@ -142,37 +165,37 @@ one_move h k move next other t u i j alike keeps a b =
 -- ---- outputs that agree
 
 -- an edit, an undo or a redo is no trace
-moves_agree : (act : Act) (move : steps.Move) (t u : List ℕ) → move_of act ≡ Some move → t ≡ u → Agree act t u
-moves_agree act move t u is same = record {
+moves_agree : (products : List PairColouring) (act : Act) (move : steps.Move) (t u : List ℕ) → move_of products act ≡ Some move → t ≡ u → Agree act t u
+moves_agree products act move t u is same = record {
   same = λ _. same;
-  traces = λ e. absurd (none-some move (sym (ap move_of e) ∙ is));
+  traces = λ e. absurd (none-some move (sym (ap (move_of products) e) ∙ is));
 }
 
-answers_agree : (h k : History) (act : Act) (next other : History) (t u : List ℕ) → IsHistory h → IsHistory k → AreAlike h k → IsHistory next
-    → Answers h act next t → Answers k act other u → AreAlike next other × Agree act t u
-answers_agree h k act next other t u i j alike keeps a b =
-    elim (move_of act) as (λ m. move_of act ≡ m → MatchOption m ((next ≡ h) × Tells h act t) (λ move. Moves h move next t) → MatchOption m ((other ≡ k) × Tells k act u) (λ move. Moves k move other u)
+answers_agree : (h k : History) (products : List PairColouring) (act : Act) (next other : History) (t u : List ℕ) → IsHistory h → IsHistory k → AreAlike h k → IsHistory next
+    → Answers h products act next t → Answers k products act other u → AreAlike next other × Agree act t u
+answers_agree h k products act next other t u i j alike keeps a b =
+    elim (move_of products act) as (λ m. move_of products act ≡ m → MatchOption m ((next ≡ h) × Tells h act t) (λ move. Moves h move next t) → MatchOption m ((other ≡ k) × Tells k act u) (λ move. Moves k move other u)
     → AreAlike next other × Agree act t u) [
       | None ↦ λ is x y. (
         subst (λ (e : History). AreAlike next e) (sym y.0) (subst (λ (e : History). AreAlike e k) (sym x.0) alike),
         queries_agree h k act t u i alike x.1 y.1,
       )
-      | Some move ↦ λ is x y. let same = one_move h k move next other t u i j alike keeps x y in (same.0, moves_agree act move t u is same.1)
+      | Some move ↦ λ is x y. let same = one_move h k move next other t u i j alike keeps x y in (same.0, moves_agree products act move t u is same.1)
     ] refl a b
 
 pub runs_agree : RunsAgree
-runs_agree h k end other [] t u i j alike a b =
+runs_agree h k end other products [] t u i j alike a b =
     (subst (λ (e : History). AreAlike end e) (sym b.0) (subst (λ (e : History). AreAlike e k) (sym a.0) alike), (a.1, b.1))
-runs_agree h k end other (line ∷ lines) t u i j alike (next, first, rest, answers, run, is) (next2, first2, rest2, answers2, run2, is2) =
-    let i2 = answer_keeps h line.act next first i answers in
-    let j2 = answer_keeps k line.act next2 first2 j answers2 in
-    let same = answers_agree h k line.act next next2 first first2 i j alike i2 answers answers2 in
-    let rests = runs_agree next next2 end other lines rest rest2 i2 j2 same.0 run run2 in
+runs_agree h k end other products (line ∷ lines) t u i j alike (next, first, rest, answers, run, is) (next2, first2, rest2, answers2, run2, is2) =
+    let i2 = answer_keeps h products line.act next first i answers in
+    let j2 = answer_keeps k products line.act next2 first2 j answers2 in
+    let same = answers_agree h k products line.act next next2 first first2 i j alike i2 answers answers2 in
+    let rests = runs_agree next next2 end other (left_by products line.act) lines rest rest2 i2 j2 same.0 run run2 in
     (rests.0, (first, first2, rest, rest2, same.1, rests.1, is, is2))
 
 pub outputs_agree : OutputsAgree
-outputs_agree C lines t u raw a b =
-    (runs_agree a.0 b.0 a.2 b.2 lines t u (start_is_history C a.0 raw a.1) (start_is_history C b.0 raw b.1) (start_is_unique C a.0 b.0 a.1 b.1) a.3 b.3).1
+outputs_agree C products lines t u raw a b =
+    (runs_agree a.0 b.0 a.2 b.2 products lines t u (start_is_history C a.0 raw a.1) (start_is_history C b.0 raw b.1) (start_is_unique C a.0 b.0 a.1 b.1) a.3 b.3).1
 
 -- ---- one output
 
@@ -187,8 +210,8 @@ one_from_agreement (line ∷ lines) t u n (first, other, rest, others, agree, re
     ∙ ap (λ (l : List ℕ). other ++ l) (one_from_agreement lines rest others (HasNoTrace-tail line lines n) rests) ∙ sym is2
 
 pub run_is_unique : RunIsUnique
-run_is_unique h k end other lines t u i j alike n a b =
-    let agree = runs_agree h k end other lines t u i j alike a b in (agree.0, one_from_agreement lines t u n agree.1)
+run_is_unique h k end other products lines t u i j alike n a b =
+    let agree = runs_agree h k end other products lines t u i j alike a b in (agree.0, one_from_agreement lines t u n agree.1)
 
 pub output_is_unique : OutputIsUnique
-output_is_unique C lines t u raw n a b = one_from_agreement lines t u n (outputs_agree C lines t u raw a b)
+output_is_unique C products lines t u raw n a b = one_from_agreement lines t u n (outputs_agree C products lines t u raw a b)

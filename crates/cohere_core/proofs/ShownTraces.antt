@@ -1,14 +1,13 @@
 -- The traces that scripts show are accepted by a check.
-use Rattle.std.proofs.Common.{◌≡◌, ◌≤◌, ◌⊎◌, ℕ, List, length, ⊎_elim, refl, sym, subst, inl, inr}
-use Rattle.pair_colours.specs.Colouring.{PairColouring}
+use Rattle.std.proofs.Common.{◌≤◌, ℕ, List, length, ⊎_elim, refl, sym, subst, inl, inr}
 use Rattle.trace_text.specs.declared.limits.TheConstants.{MOST_TRACE}
 use Rattle.trace_text.specs.ClaimTexts.{IsTraceText}
 use Rattle.trace_text.proofs.LawProofs.{accepted_fits_trace, text_is_read_back}
 use Rattle.recolour_bench.specs.EntryChains.{claim_by}
-use Rattle.recolour_bench.specs.History.{History, IsHistory, no_entry, present_chain}
+use Rattle.recolour_bench.specs.History.{no_entry, present_chain}
 use Rattle.recolour_bench.proofs.LawProofs.{chains_are_accepted, chains_are_raw, chain_texts_fit}
 use Rattle.cohere_inputs.specs.Bad.{IsTraceFile}
-use Rattle.cohere_core.specs.Law.{ShowsClosure, TraceShowsClosure, TraceIsChecked}
+use Rattle.cohere_core.specs.Law.{TraceShowsClosure, TraceIsChecked}
 use Rattle.cohere_core.proofs.CheckOutputs.{good_trace}
 
 pub trace_shows_closure : TraceShowsClosure

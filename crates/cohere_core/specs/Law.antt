@@ -11,32 +11,34 @@ use Rattle.trace_text.specs.ClaimTexts.{IsTraceText}
 use Rattle.recolour_bench.specs.History.{History, IsHistory, AreAlike, present}
 use Rattle.script_text.specs.declared.acts.Act.TheVariants.{Trace}
 use Rattle.script_text.specs.declared.acts.Line.{Line}
-use Rattle.cohere_inputs.specs.Acts.{AreBuilt}
 use Rattle.cohere_inputs.specs.Task.{Check}
 use Rattle.cohere_core.specs.declared.status.Status.{Status}
 use Rattle.cohere_core.specs.declared.status.Status.TheVariants.{Done, NoMemory}
 use Rattle.cohere_core.specs.Answer.{Runs, Tells}
 use Rattle.cohere_core.specs.Output.{ScriptOutput}
+use Rattle.cohere_core.specs.Products.{AreProducts}
 use Rattle.cohere_core.specs.Run.{IsStatusWithoutFaults}
 use Rattle.cohere_core.specs.Agreement.{AgreeLineByLine}
 
--- a script of acts that are answered has an output over every colouring that starts a history
+-- a script has an output over every colouring that starts a history and every list of its products
 abbrev pub OutputExists : Type 0
-OutputExists = (C : PairColouring) (lines : List Line) → IsRawColouring C → AreBuilt lines → (t : List ℕ) × ScriptOutput C lines t
+OutputExists = (C : PairColouring) (products : List PairColouring) (lines : List Line) → IsRawColouring C → AreProducts products lines → (t : List ℕ) × ScriptOutput C products lines t
 
 -- and its lines lead on from every history
 abbrev pub RunExists : Type 0
-RunExists = (h : History) (lines : List Line) → IsHistory h → AreBuilt lines → (end : History) × (t : List ℕ) × Runs h lines end t
+RunExists = (h : History) (products : List PairColouring) (lines : List Line) → IsHistory h → AreProducts products lines → (end : History) × (t : List ℕ) × Runs h products lines end t
 
 -- the outputs of a script over a colouring agree line by line: they differ in the steps of traces alone
 abbrev pub OutputsAgree : Type 0
-OutputsAgree = (C : PairColouring) (lines : List Line) (t u : List ℕ) → IsRawColouring C → ScriptOutput C lines t → ScriptOutput C lines u → AgreeLineByLine lines t u
+OutputsAgree =
+    (C : PairColouring) (products : List PairColouring) (lines : List Line) (t u : List ℕ) → IsRawColouring C
+    → ScriptOutput C products lines t → ScriptOutput C products lines u → AgreeLineByLine lines t u
 
 -- and so do the answers of lines from alike histories, which lead to alike ones
 abbrev pub RunsAgree : Type 0
 RunsAgree =
-    (h k end other : History) (lines : List Line) (t u : List ℕ) → IsHistory h → IsHistory k → AreAlike h k
-    → Runs h lines end t → Runs k lines other u → AreAlike end other × AgreeLineByLine lines t u
+    (h k end other : History) (products : List PairColouring) (lines : List Line) (t u : List ℕ) → IsHistory h → IsHistory k → AreAlike h k
+    → Runs h products lines end t → Runs k products lines other u → AreAlike end other × AgreeLineByLine lines t u
 
 -- no line asks for a trace, whose steps may be chosen
 abbrev pub HasNoTrace : List Line → Type 0
@@ -44,13 +46,15 @@ HasNoTrace lines = All (λ line. line.act ≢ Trace) lines
 
 -- where no line does, a script has one output over a colouring
 abbrev pub OutputIsUnique : Type 0
-OutputIsUnique = (C : PairColouring) (lines : List Line) (t u : List ℕ) → IsRawColouring C → HasNoTrace lines → ScriptOutput C lines t → ScriptOutput C lines u → t ≡ u
+OutputIsUnique =
+    (C : PairColouring) (products : List PairColouring) (lines : List Line) (t u : List ℕ) → IsRawColouring C → HasNoTrace lines
+    → ScriptOutput C products lines t → ScriptOutput C products lines u → t ≡ u
 
 -- and its lines have one text from alike histories, and lead to alike ones
 abbrev pub RunIsUnique : Type 0
 RunIsUnique =
-    (h k end other : History) (lines : List Line) (t u : List ℕ) → IsHistory h → IsHistory k → AreAlike h k → HasNoTrace lines
-    → Runs h lines end t → Runs k lines other u → AreAlike end other × (t ≡ u)
+    (h k end other : History) (products : List PairColouring) (lines : List Line) (t u : List ℕ) → IsHistory h → IsHistory k → AreAlike h k → HasNoTrace lines
+    → Runs h products lines end t → Runs k products lines other u → AreAlike end other × (t ≡ u)
 
 -- the text is that of an accepted claim that K is the closure of C, and no longer than a trace may be
 pub record ShowsClosure (C K : PairColouring) (text : List ℕ) : Type 0 where

@@ -1,4 +1,8 @@
 pub mod Code
+pub mod ClosedSubsets
+pub mod Fusions
+pub mod Products
+pub mod Queries
 pub mod Answer
 pub mod Move
 pub mod Output

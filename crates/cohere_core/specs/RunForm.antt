@@ -17,8 +17,9 @@ use Rattle.cohere_core.specs.Output.{ScriptOutput}
 pub record RunOutput (files : Files) (run : RunWords) (t : List ℕ) : Type 0 where
   pub relation : PairColouring
   pub lines : List Line
-  pub inputs : AreRunInputs files run relation lines
-  pub output : ScriptOutput relation lines t
+  pub products : List PairColouring
+  pub inputs : AreRunInputs files run relation lines products
+  pub output : ScriptOutput relation products lines t
 
 -- no file is bad, and a whole output was added
 abbrev pub AddsRunOutput : Files → RunWords → Option (List ℕ) → Option (List ℕ) → Type 0

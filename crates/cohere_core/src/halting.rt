@@ -9,15 +9,22 @@ use crate::Status;
 use cohere_inputs::{FileFault, Halt, Unread, say_halt};
 use scheme_io::Sink;
 
+/// The status where a file was not read for this reason.
+pub(crate) fn status_of_halt(why: Unread) -> Status
+    ensures { result ≡ halt_status why }
+{
+    match why {
+        Unread::Bad(FileFault::Missing) | Unread::StoreFailed => Status::StoreFailed,
+        Unread::Bad(_) => Status::BadInput,
+        Unread::NoMemory => Status::NoMemory,
+    }
+}
+
 /// Says why a file was not read, and gives the status.
 pub(crate) fn report<E: Sink>(err: &mut E, halt: Halt<'_>) -> Status
     ensures status { result ≡ halt_status halt.entry.why }
     ensures line { AddsLine E.written E.faults err.old err.new (halt_line halt.entry.name.now halt.entry.why) }
 {
     say_halt(err, &halt);
-    match halt.why {
-        Unread::Bad(FileFault::Missing) | Unread::StoreFailed => Status::StoreFailed,
-        Unread::Bad(_) => Status::BadInput,
-        Unread::NoMemory => Status::NoMemory,
-    }
+    status_of_halt(halt.why)
 }

@@ -5,8 +5,10 @@
 //! * `check_form`: the form of words that judges a trace.
 //! * `halting`: the status where a file was not read.
 //! * `answering`: `session`, the answers of a script line by line; `answers`: one of them, and
-//!   `queries`: one that changes nothing.
-//! * `laws`: every script has an output over every relation, and only one where it asks for no trace.
+//!   `queries`: one that changes nothing; `subset_queries`: one about closed subsets, and
+//!   `fusion_queries`: one about fusions.
+//! * `laws`: every script has an output over every relation, and its outputs differ in the steps of
+//!   traces alone; a check accepts each trace that is shown.
 //!
 //! The definitions stand in `specs/`: `Run` says what holds after each status, with a case for each
 //! form of words (`RunForm`, `CheckForm`), and `Output` and `Answer` what is written. The words, the
@@ -16,12 +18,14 @@
 mod answering;
 mod answers;
 mod check_form;
+mod fusion_queries;
 mod halting;
 pub mod laws;
 mod queries;
 mod run_form;
 mod running;
 mod status;
+mod subset_queries;
 #[cfg(test)]
 mod tests;
 

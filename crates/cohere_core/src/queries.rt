@@ -1,6 +1,6 @@
 //! The answers of the lines that change nothing.
 
-ghost use Rattle.std.specs.Prelude.{◌≡◌, true, IfOk, None};
+ghost use Rattle.std.specs.Prelude.{◌≡◌, true, IfOk};
 ghost use Rattle.pair_colours.specs.Closure.{IsClosureOf};
 ghost use Rattle.recolour_bench.specs.EntryChains.{claim_by};
 ghost use Rattle.recolour_bench.specs.History.{present, present_chain};
@@ -11,11 +11,17 @@ ghost use Rattle.report_text.specs.Tests.{tests_text_of};
 ghost use Rattle.trace_text.specs.TraceText.{trace_text};
 ghost use Rattle.scheme_tests.specs.declared.properties.SchemeTests.{SchemeTests};
 ghost use Rattle.scheme_tests.specs.Law.{AreAnswers};
-ghost use Rattle.cohere_inputs.specs.Acts.{is_built};
-ghost use Rattle.cohere_core.specs.Answer.{AnswersArray, OfConfiguration, Tells, WritesGraph, move_of};
+ghost use Rattle.script_text.specs.Grammar.{IsLimit};
+ghost use Rattle.script_text.specs.Script.{KeepsLimit};
+ghost use Rattle.cohere_core.specs.ClosedSubsets.{ListsClosed, AnswersQuotient, AnswersSub};
+ghost use Rattle.cohere_core.specs.Fusions.{AnswersClose, ListsGood, AnswersMergings};
+ghost use Rattle.cohere_core.specs.Answer.{AnswersArray, OfConfiguration, Tells, WritesGraph};
+ghost use Rattle.cohere_core.specs.Queries.{is_query};
 
+use crate::fusion_queries::{close_answer, good_answer, mergings_answer};
+use crate::subset_queries::{closed_answer, quotient_answer, sub_answer};
 use drg_arrays::{ArrayFault, array};
-use pair_colours::{Colouring, NoMemory};
+use pair_colours::{Colouring, NoMemory, Numbers};
 use recolour_bench::Bench;
 use relation_text::{WriteFault, write_digraph6, write_graph6};
 use report_text::{
@@ -27,6 +33,7 @@ use script_text::{Act, GraphForm};
 use std::alloc::Global;
 use struct_consts::Constants;
 use trace_text::write_trace;
+use visitors::Visitor;
 
 // The structure constants of the closure.
 fn constants_of(alloc: Global, bench: &Bench) -> Result<Constants, NoMemory>
@@ -117,6 +124,68 @@ fn written(alloc: Global, bench: &Bench, form: GraphForm, set: &[u32]) -> Result
     }
 }
 
+// The closed subsets of the closure.
+fn listed_closed(
+    alloc: Global,
+    bench: &Bench,
+    visitor: &mut dyn Visitor,
+) -> Result<Vec<u8>, NoMemory>
+    ensures { IfOk result (λ text. OfConfiguration bench.now (λ K. ListsClosed K text.items)) }
+{
+    let constants = constants_of(alloc, bench)?;
+    closed_answer(alloc, &constants, visitor)
+}
+
+// The quotient of the closure by a set of classes.
+fn divided(alloc: Global, bench: &Bench, set: &[u32]) -> Result<Vec<u8>, NoMemory>
+    ensures { IfOk result (λ text. OfConfiguration bench.now (λ K. AnswersQuotient K set.now text.items)) }
+{
+    quotient_answer(alloc, bench.closure(), set)
+}
+
+// The subscheme of the closure on the class of a point by a set of classes.
+fn restricted(alloc: Global, bench: &Bench, x: u32, set: &[u32]) -> Result<Vec<u8>, NoMemory>
+    ensures { IfOk result (λ text. OfConfiguration bench.now (λ K. AnswersSub K x set.now text.items)) }
+{
+    sub_answer(alloc, bench.closure(), x, set)
+}
+
+// The closure on the classes of the closure of a growth string.
+fn closed_string(alloc: Global, bench: &Bench, string: &[u32]) -> Result<Vec<u8>, NoMemory>
+    ensures { IfOk result (λ text. OfConfiguration bench.now (λ K. AnswersClose K string.now text.items)) }
+{
+    let constants = constants_of(alloc, bench)?;
+    close_answer(alloc, &constants, string)
+}
+
+// The good subsets of the closure.
+fn listed_good(alloc: Global, bench: &Bench, visitor: &mut dyn Visitor) -> Result<Vec<u8>, NoMemory>
+    ensures { IfOk result (λ text. OfConfiguration bench.now (λ K. ListsGood K text.items)) }
+{
+    let constants = constants_of(alloc, bench)?;
+    good_answer(alloc, &constants, visitor)
+}
+
+// The first fusions of the closure, from the first on or after a string.
+fn listed_mergings(
+    alloc: Global,
+    bench: &Bench,
+    most: u32,
+    after: &Option<Numbers>,
+    visitor: &mut dyn Visitor,
+) -> Result<Vec<u8>, NoMemory>
+    requires { IsLimit most }
+    ensures { IfOk result (λ text. OfConfiguration bench.now (λ K. AnswersMergings K most after.now text.items)) }
+{
+    let constants = constants_of(alloc, bench)?;
+    match after {
+        None => mergings_answer(alloc, &constants, most, None, visitor),
+        Some(string) => {
+            mergings_answer(alloc, &constants, most, Some(string.as_slice()), visitor)
+        }
+    }
+}
+
 // The trace of the chain that shows the closure.
 fn traced(alloc: Global, bench: &Bench) -> Result<Vec<u8>, NoMemory>
     ensures { IfOk result (λ text. OfConfiguration bench.now (λ K. text.items ≡ trace_text (claim_by (present_chain bench.now) K))) }
@@ -125,9 +194,14 @@ fn traced(alloc: Global, bench: &Bench) -> Result<Vec<u8>, NoMemory>
 }
 
 /// Answers a query.
-pub(crate) fn query_answer(alloc: Global, bench: &Bench, act: &Act) -> Result<Vec<u8>, NoMemory>
-    requires built { is_built act.now ≡ true }
-    requires query { move_of act.now ≡ None }
+pub(crate) fn query_answer(
+    alloc: Global,
+    bench: &Bench,
+    act: &Act,
+    visitor: &mut dyn Visitor,
+) -> Result<Vec<u8>, NoMemory>
+    requires query { is_query act.now ≡ true }
+    requires limit { KeepsLimit act.now }
     ensures { IfOk result (λ text. Tells bench.now act.now text.items) }
 {
     match act {
@@ -137,6 +211,12 @@ pub(crate) fn query_answer(alloc: Global, bench: &Bench, act: &Act) -> Result<Ve
         Act::Constants => listed_constants(alloc, bench),
         Act::Tests => listed_tests(alloc, bench),
         Act::Array { set } => array_answer(alloc, bench, set.as_slice()),
+        Act::Closed => listed_closed(alloc, bench, visitor),
+        Act::Quotient { set } => divided(alloc, bench, set.as_slice()),
+        Act::Sub { x, set } => restricted(alloc, bench, *x, set.as_slice()),
+        Act::Close { string } => closed_string(alloc, bench, string.as_slice()),
+        Act::Good => listed_good(alloc, bench, visitor),
+        Act::Mergings { most, after } => listed_mergings(alloc, bench, *most, after, visitor),
         Act::Trace => traced(alloc, bench),
         Act::Write { form, set } => written(alloc, bench, *form, set.as_slice()),
         _ => unreachable!(),

@@ -9,18 +9,20 @@ ghost use Rattle.cohere_core.specs.Run.{MayAnswer, OutputAfter, IsQuiet, LineAft
 
 use crate::Status;
 use crate::answering::{SessionFault, answer_script};
-use crate::halting::report;
+use crate::halting::status_of_halt;
 use cohere_inputs::{RunWords, run_inputs, say_no_memory};
 use scheme_io::{Sink, Store};
 use std::alloc::Global;
+use visitors::Visitor;
 
-/// Reads the relation and the script, and only then answers.
+/// Reads the relation, the script and the files of its products, and only then answers.
 pub(crate) fn answer_run<S: Store, O: Sink, E: Sink>(
     alloc: Global,
     words: RunWords<'_>,
     store: &mut S,
     out: &mut O,
     err: &mut E,
+    visitor: &mut dyn Visitor,
 ) -> Status
     requires { IsAsked (Run (asked_run words)) }
     ensures output { OutputAfter (Run (asked_run words.entry)) result (S.files store.old) (O.written out.old) (O.written out.new) }
@@ -38,11 +40,18 @@ pub(crate) fn answer_run<S: Store, O: Sink, E: Sink>(
         → IsStatusWithoutFaults (Run (asked_run words.entry)) result (S.files store.old) }
     ensures same_files { S.files store.new ≡ S.files store.old }
 {
-    let inputs = match run_inputs(alloc, store, words) {
+    let inputs = match run_inputs(alloc, store, words, err) {
         Ok(inputs) => inputs,
-        Err(halt) => return report(err, halt),
+        Err(why) => return status_of_halt(why),
     };
-    match answer_script(alloc, inputs.relation, &inputs.lines, out) {
+    match answer_script(
+        alloc,
+        inputs.relation,
+        &inputs.lines,
+        &inputs.products,
+        out,
+        visitor,
+    ) {
         Ok(()) => Status::Done,
         Err(SessionFault::SinkFailed) => Status::SinkFailed,
         Err(SessionFault::NoMemory) => {

@@ -14,8 +14,10 @@ use crate::run_form::answer_run;
 use cohere_inputs::{Task, say_usage, task_of};
 use scheme_io::{Sink, Store};
 use std::alloc::Global;
+use visitors::Visitor;
 
-/// Does what the words ask for: reads the named files, and only then answers.
+/// Does what the words ask for: reads the files that they name, and those that a script names, and
+/// only then answers.
 ///
 /// The answers go to `out`. After a status that is no `Done`, `CheckedNo` or `SinkFailed`, one line
 /// that says why goes to `err`; a failure of `err` changes no status.
@@ -24,12 +26,16 @@ use std::alloc::Global;
 /// claimed colouring is the closure of the colours of its last stage (`trace_text::laws::l3`);
 /// `CheckedNo` that it is a trace of a claim that is not, and that the line of its first bad line was
 /// written. The claim is judged by `trace_check`, which closes nothing.
+///
+/// The visitor meets the entries of the lists that a script asks for, one list after the other. It is
+/// dropped at the end.
 pub fn run<S: Store, O: Sink, E: Sink>(
     alloc: Global,
     words: &[String],
     store: &mut S,
     out: &mut O,
     err: &mut E,
+    visitor: Box<dyn Visitor>,
 ) -> Status
     // The headline: what was added to the output.
     ensures output { IfAsked words.now (λ task. OutputAfter task result (S.files store.old) (O.written out.old) (O.written out.new)) }
@@ -58,8 +64,9 @@ pub fn run<S: Store, O: Sink, E: Sink>(
 
     ensures same_files { S.files store.new ≡ S.files store.old }
 {
+    let mut visitor = visitor;
     match task_of(words) {
-        Some(task) => carry_out(alloc, task, store, out, err),
+        Some(task) => carry_out(alloc, task, store, out, err, &mut *visitor),
         None => {
             say_usage(err);
             Status::Usage
@@ -74,6 +81,7 @@ fn carry_out<S: Store, O: Sink, E: Sink>(
     store: &mut S,
     out: &mut O,
     err: &mut E,
+    visitor: &mut dyn Visitor,
 ) -> Status
     requires { IsAsked (asked task) }
     ensures output { OutputAfter (asked task.entry) result (S.files store.old) (O.written out.old) (O.written out.new) }
@@ -93,7 +101,7 @@ fn carry_out<S: Store, O: Sink, E: Sink>(
     ensures same_files { S.files store.new ≡ S.files store.old }
 {
     match task {
-        Task::Run(words) => answer_run(alloc, words, store, out, err),
+        Task::Run(words) => answer_run(alloc, words, store, out, err, visitor),
         Task::Check(trace) => answer_check(alloc, trace, store, out, err),
     }
 }

@@ -11,8 +11,7 @@ pub enum Status {
     CheckedNo,
     /// The words fit no form.
     Usage,
-    /// A text that was loaded is over its limit or outside its grammar, or asks for what is not
-    /// answered yet.
+    /// A text that was loaded is over its limit or outside its grammar.
     BadInput,
     /// A file is not there, or the store failed.
     StoreFailed,

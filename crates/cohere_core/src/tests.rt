@@ -5,12 +5,16 @@ use scheme_io::{MemorySink, MemoryStore};
 use std::alloc::{AllocError, Global};
 use std::process::Abort;
 use std::test::Fail;
+use visitors::{Keep, Packed, Visitor};
 
 mod answered;
 mod checks;
 mod failures;
+mod fusions;
 mod limits;
+mod product_lines;
 mod refused;
+mod subsets;
 mod traces;
 
 fn words_of(alloc: Global, words: &[&str]) -> Result<Vec<String>, AllocError> {
@@ -29,7 +33,27 @@ struct Outcome<'a> {
     line: &'a [u8],
 }
 
-// A run ends so; the row of a table is named where it does not.
+// A run that is handed the visitor ends so; the row of a table is named where it does not.
+fn ends_by(
+    rt: &impl Abort,
+    alloc: Global,
+    row: usize,
+    words: &[&str],
+    store: &mut MemoryStore,
+    out: &mut MemorySink,
+    outcome: Outcome<'_>,
+    visitor: Box<dyn Visitor>,
+) -> Result<(), Fail> {
+    let mut err = MemorySink::new(alloc, 5, 1000)?;
+    let words = words_of(alloc, words)?;
+    let answer = run(alloc, &words, store, out, &mut err, visitor);
+    assert_eq!(rt; answer, outcome.status, "row {row}");
+    assert_eq!(rt; out.written(), outcome.output, "row {row}");
+    assert_eq!(rt; err.written(), outcome.line, "row {row}");
+    Ok(())
+}
+
+// A run ends so.
 fn ends(
     rt: &impl Abort,
     alloc: Global,
@@ -39,13 +63,8 @@ fn ends(
     out: &mut MemorySink,
     outcome: Outcome<'_>,
 ) -> Result<(), Fail> {
-    let mut err = MemorySink::new(alloc, 5, 1000)?;
-    let words = words_of(alloc, words)?;
-    let answer = run(alloc, &words, store, out, &mut err);
-    assert_eq!(rt; answer, outcome.status, "row {row}");
-    assert_eq!(rt; out.written(), outcome.output, "row {row}");
-    assert_eq!(rt; err.written(), outcome.line, "row {row}");
-    Ok(())
+    let keep: Box<dyn Visitor> = Box::new(alloc, Keep::new(alloc))?;
+    ends_by(rt, alloc, row, words, store, out, outcome, keep)
 }
 
 // A run over the files R and S ends so.
@@ -65,7 +84,7 @@ fn expect(
     ends(rt, alloc, row, words, &mut store, &mut out, outcome)
 }
 
-// The script is answered over the relation.
+// The script is answered over the relation, whichever visitor is handed in.
 fn answers(
     rt: &impl Abort,
     alloc: Global,
@@ -79,14 +98,15 @@ fn answers(
         output,
         line: b"",
     };
-    expect(
-        rt,
-        alloc,
-        row,
-        &["run", "R", "S"],
-        relation,
-        script,
-        outcome,
+    let words = ["run", "R", "S"];
+    expect(rt, alloc, row, &words, relation, script, outcome)?;
+    let mut store = MemoryStore::new(alloc);
+    store.add("R", relation)?;
+    store.add("S", script)?;
+    let mut out = MemorySink::new(alloc, 1000, 100_000)?;
+    let packed: Box<dyn Visitor> = Box::new(alloc, Packed::new(alloc))?;
+    ends_by(
+        rt, alloc, row, &words, &mut store, &mut out, outcome, packed,
     )
 }
 

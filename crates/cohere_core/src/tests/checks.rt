@@ -7,6 +7,7 @@ use scheme_io::{MemorySink, MemoryStore};
 use std::alloc::Global;
 use std::process::Abort;
 use std::test::Fail;
+use visitors::{Keep, Visitor};
 
 // One colour on two points, with a step that parts the diagonal.
 const TRACE: &[u8] = b"trace 1\npoints 2\nstage\n7 7\n7 7\nD 0\nclosure\n0 1\n1 0\nend\n";
@@ -116,7 +117,8 @@ fn names_a_line(rt: &impl Abort, alloc: Global, trace: &[u8]) -> Result<(), Fail
     let mut out = MemorySink::new(alloc, 7, 1000)?;
     let mut err = MemorySink::new(alloc, 5, 1000)?;
     let words = words_of(alloc, &["check", "T"])?;
-    let answer = run(alloc, &words, &mut store, &mut out, &mut err);
+    let visitor: Box<dyn Visitor> = Box::new(alloc, Keep::new(alloc))?;
+    let answer = run(alloc, &words, &mut store, &mut out, &mut err, visitor);
     let size = trace.len();
     assert_eq!(rt; answer, Status::BadInput, "the first {size} bytes");
     assert_eq!(rt; out.written(), b"".as_slice(), "the first {size} bytes");

@@ -31,7 +31,7 @@ pub(super) fn padded(alloc: Global, front: &[u8], size: usize) -> Result<Vec<u8>
 const RAW_2: &[u8] = b"raw points 2 colours 2\n0 1\n1 0\n";
 
 // Relations and scripts of one line or a few, within the limits.
-const WITHIN: [(&[u8], &[u8], &[u8]); 2] = [
+const WITHIN: [(&[u8], &[u8], &[u8]); 3] = [
     (
         b"matrix 1\n65535\n",
         b"raw",
@@ -42,10 +42,11 @@ const WITHIN: [(&[u8], &[u8], &[u8]); 2] = [
         b"set 0 0 65535\nset 0 0 65536\nraw\n",
         b"ok points 1 rank 1\nrefused ColourRange\nraw points 1 colours 1\n65535\n",
     ),
+    (b"A_\n", b"mergings 10000", b"mergings\n0 1\nend\n"),
 ];
 
-// And some that are past one. Mergings are not answered yet.
-const PAST: [(&[u8], &[u8], &[u8]); 5] = [
+// And some that are past one.
+const PAST: [(&[u8], &[u8], &[u8]); 4] = [
     (b"~?A@\n", b"raw", b"cohere: R: TooManyPoints at 0\n"),
     (b"matrix 129\n", b"raw", b"cohere: R: TooManyPoints at 7\n"),
     (
@@ -53,7 +54,6 @@ const PAST: [(&[u8], &[u8], &[u8]); 5] = [
         b"raw",
         b"cohere: R: ColourTooLarge at 9\n",
     ),
-    (b"A_\n", b"mergings 10000", b"cohere: S: line 1 NotYet\n"),
     (b"A_\n", b"mergings 10001", b"cohere: S: line 1 BadLimit\n"),
 ];
 
@@ -104,23 +104,6 @@ fn limits_of_relations(rt: HostRuntime) -> Result<(), Fail> {
     refuses(&rt, alloc, 3, &more, b"raw", b"cohere: R: TooLong\n")
 }
 
-// A front, and then a piece so many times, with what is said of them. Products are not answered yet.
-const LONG: [(&[u8], &[u8], u32, &[u8]); 3] = [
-    (
-        b"raw\n",
-        b"#\n",
-        10_000,
-        b"cohere: S: line 10001 TooManyLines\n",
-    ),
-    (b"", b"direct F\n", 64, b"cohere: S: line 1 NotYet\n"),
-    (
-        b"",
-        b"direct F\n",
-        65,
-        b"cohere: S: line 65 TooManyProducts\n",
-    ),
-];
-
 #[test]
 fn limits_of_scripts(rt: HostRuntime) -> Result<(), Fail> {
     let alloc = rt.alloc();
@@ -132,10 +115,9 @@ fn limits_of_scripts(rt: HostRuntime) -> Result<(), Fail> {
     // Lines.
     let most = repeated(alloc, b"raw\n", b"#\n", 9_999, b"")?;
     answers(&rt, alloc, 1, b"A_\n", &most, RAW_2)?;
-    for (row, (front, piece, times, line)) in LONG.iter().enumerate() {
-        let more = repeated(alloc, front, piece, *times, b"")?;
-        refuses(&rt, alloc, 100 + row, b"A_\n", &more, line)?;
-    }
+    let more = repeated(alloc, b"raw\n", b"#\n", 10_000, b"")?;
+    let line = b"cohere: S: line 10001 TooManyLines\n";
+    refuses(&rt, alloc, 100, b"A_\n", &more, line)?;
     // Bytes of the file.
     let most = padded(alloc, b"raw\n#", 1_048_576)?;
     answers(&rt, alloc, 2, b"A_\n", &most, RAW_2)?;

@@ -41,7 +41,7 @@ const RELATIONS: [(&[u8], &[u8]); 14] = [
     ),
 ];
 
-// Files that are no script, and one with an act that is not answered yet.
+// Files that are no script; blank lines count.
 const SCRIPTS: [(&[u8], &[u8]); 7] = [
     (b"show\x01\n", b"cohere: S: line 1 BadByte\n"),
     (b"shwo\n", b"cohere: S: line 1 UnknownWord\n"),
@@ -49,7 +49,7 @@ const SCRIPTS: [(&[u8], &[u8]); 7] = [
     (b"fix 01\n", b"cohere: S: line 1 BadNumber\n"),
     (b"show\nmergings 0\n", b"cohere: S: line 2 BadLimit\n"),
     (b"direct -\n", b"cohere: S: line 1 BadName\n"),
-    (b"show\n\ngood\n", b"cohere: S: line 3 NotYet\n"),
+    (b"show\n\nfuse 0 x\n", b"cohere: S: line 3 BadNumber\n"),
 ];
 
 #[test]

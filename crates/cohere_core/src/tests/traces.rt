@@ -6,10 +6,11 @@ use scheme_io::{MemorySink, MemoryStore};
 use std::alloc::{AllocError, Global};
 use std::process::Abort;
 use std::test::Fail;
+use visitors::{Keep, Visitor};
 
-// Scripts of which no step of a trace is free: relation, script, answers, and of each trace its
-// stages and the line of its check.
-const FORCED: [(&[u8], &[u8], &[u8], &[(usize, &[u8])]); 3] = [
+// Scripts with traces: relation, script, answers, and of each trace its lines `stage` and the line of
+// its check. A text is whole where it ends with a line end, and else a front, as the steps are free.
+const ROWS: [(&[u8], &[u8], &[u8], &[u8]); 5] = [
     (
         b"matrix 2\n7 7\n7 7\n",
         b"raw\ntrace\n",
@@ -27,7 +28,7 @@ closure
 1 0
 end
 ",
-        &[(1, b"accepted points 2 rank 2 steps 1\n")],
+        b"stage\naccepted points 2 rank 2 steps 1\n",
     ),
     (
         b"Dhc\n",
@@ -56,7 +57,7 @@ closure
 1 2 2 1 0
 end
 ",
-        &[(1, b"accepted points 5 rank 3 steps 0\n")],
+        b"stage\naccepted points 5 rank 3 steps 0\n",
     ),
     (
         b"matrix 2\n7 7\n7 7\n",
@@ -87,16 +88,13 @@ closure
 1 0
 end
 ",
-        &[
-            (2, b"accepted points 2 rank 2 steps 1\n"),
-            (1, b"accepted points 2 rank 2 steps 1\n"),
-        ],
+        b"stage
+stage
+accepted points 2 rank 2 steps 1
+stage
+accepted points 2 rank 2 steps 1
+",
     ),
-];
-
-// Scripts with traces whose steps are free: relation, script, the front of the answers, and of each
-// trace its stages and the front of the line of its check.
-const FREE: [(&[u8], &[u8], &[u8], &[(usize, &[u8])]); 2] = [
     (
         b"Dhc\n",
         b"fix 0\nundo\nredo\ntrace\n",
@@ -116,9 +114,8 @@ stage
 1 0 1 2 2
 2 1 0 1 2
 2 2 1 0 1
-1 2 2 1 0
-",
-        &[(2, b"accepted points 5 rank 13 steps ")],
+1 2 2 1 0",
+        b"stage\nstage\naccepted points 5 rank 13 steps ",
     ),
     (
         b"Dhc\n",
@@ -133,13 +130,16 @@ stage
 2 9 0 9 2
 2 2 9 0 9
 9 2 2 9 0
-closure
-",
-        &[
-            (1, b"accepted points 5 rank 3 steps 0\n"),
-            (2, b"accepted points 5 rank 3 steps 0\n"),
-            (3, b"accepted points 5 rank 25 steps "),
-        ],
+closure",
+        b"stage
+accepted points 5 rank 3 steps 0
+stage
+stage
+accepted points 5 rank 3 steps 0
+stage
+stage
+stage
+accepted points 5 rank 25 steps ",
     ),
 ];
 
@@ -154,7 +154,8 @@ fn written(
     let mut out = MemorySink::new(alloc, 1000, 1_000_000)?;
     let mut err = MemorySink::new(alloc, 1000, 1000)?;
     let words = words_of(alloc, words)?;
-    let answer = run(alloc, &words, store, &mut out, &mut err);
+    let visitor: Box<dyn Visitor> = Box::new(alloc, Keep::new(alloc))?;
+    let answer = run(alloc, &words, store, &mut out, &mut err, visitor);
     assert_eq!(rt; answer, status);
     Ok(Vec::from_slice(alloc, out.written())?)
 }
@@ -190,54 +191,73 @@ fn traces_in(alloc: Global, answers: &[u8]) -> Result<Vec<Vec<u8>>, AllocError> 
     Ok(traces)
 }
 
-// How many stages a trace has.
-fn stages_of(trace: &[u8]) -> usize {
-    trace
-        .split(|byte| *byte == b'\n')
-        .filter(|line| *line == b"stage".as_slice())
-        .count()
+// The lines `stage` of a trace, and the line of its check.
+fn checked(rt: &impl Abort, alloc: Global, trace: &[u8]) -> Result<Vec<u8>, Fail> {
+    let mut store = MemoryStore::new(alloc);
+    store.add("T", trace)?;
+    let line = written(rt, alloc, &mut store, &["check", "T"], Status::Done)?;
+    let mut text = Vec::new(alloc);
+    for line in trace.split(|byte| *byte == b'\n') {
+        if line == b"stage".as_slice() {
+            text.extend_from_slice(b"stage\n")?;
+        }
+    }
+    text.extend_from_slice(&line)?;
+    Ok(text)
 }
 
-// The traces among the answers have so many stages, and a check of each writes such a line.
-fn are_accepted(
+// Whether a text is the wanted one, whole or a front.
+fn fits(text: &[u8], wanted: &[u8]) -> bool {
+    if wanted.ends_with(b"\n") {
+        text == wanted
+    } else {
+        text.starts_with(wanted)
+    }
+}
+
+// The script is answered so over the relation, and its traces are checked so.
+fn shows(
     rt: &impl Abort,
     alloc: Global,
     row: usize,
-    answers: &[u8],
-    wanted: &[(usize, &[u8])],
+    relation: &[u8],
+    script: &[u8],
+    output: &[u8],
+    checks: &[u8],
 ) -> Result<(), Fail> {
-    let traces = traces_in(alloc, answers)?;
-    assert_eq!(rt; traces.len(), wanted.len(), "row {row}");
-    for (trace, (stages, front)) in traces.iter().zip(wanted) {
-        assert_eq!(rt; stages_of(trace), *stages, "row {row}");
-        let mut store = MemoryStore::new(alloc);
-        store.add("T", trace)?;
-        let line = written(rt, alloc, &mut store, &["check", "T"], Status::Done)?;
-        assert_eq!(rt; line.starts_with(front), true, "row {row}");
+    let answers = answers_of(rt, alloc, relation, script)?;
+    assert_eq!(rt; fits(&answers, output), true, "row {row}");
+    let mut all = Vec::new(alloc);
+    for trace in &traces_in(alloc, &answers)? {
+        all.extend_from_slice(&checked(rt, alloc, trace)?)?;
     }
+    assert_eq!(rt; fits(&all, checks), true, "row {row}");
     Ok(())
+}
+
+// The line so many times, and then the last line.
+fn repeated(alloc: Global, line: &[u8], times: u32, last: &[u8]) -> Result<Vec<u8>, AllocError> {
+    let mut text = Vec::new(alloc);
+    for _ in 0..times {
+        text.extend_from_slice(line)?;
+    }
+    text.extend_from_slice(last)?;
+    Ok(text)
 }
 
 #[test]
 fn traces_that_are_shown(rt: HostRuntime) -> Result<(), Fail> {
     let alloc = rt.alloc();
-    for (row, (relation, script, output, wanted)) in FORCED.iter().enumerate() {
-        let answers = answers_of(&rt, alloc, relation, script)?;
-        assert_eq!(rt; answers.as_slice(), *output, "row {row}");
-        are_accepted(&rt, alloc, row, &answers, wanted)?;
-    }
-    for (row, (relation, script, front, wanted)) in FREE.iter().enumerate() {
-        let answers = answers_of(&rt, alloc, relation, script)?;
-        assert_eq!(rt; answers.starts_with(front), true, "row {row}");
-        are_accepted(&rt, alloc, 100 + row, &answers, wanted)?;
+    for (row, (relation, script, output, checks)) in ROWS.iter().enumerate() {
+        shows(&rt, alloc, row, relation, script, output, checks)?;
     }
     // The last of the 257 is refused, and there are as many stages as entries.
-    let mut script = Vec::new(alloc);
-    for _ in 0..257u32 {
-        script.extend_from_slice(b"adopt\n")?;
-    }
-    script.extend_from_slice(b"trace\n")?;
-    let answers = answers_of(&rt, alloc, b"A_\n", &script)?;
-    let wanted: [(usize, &[u8]); 1] = [(257, b"accepted points 2 rank 2 steps 0\n")];
-    are_accepted(&rt, alloc, 200, &answers, &wanted)
+    let script = repeated(alloc, b"adopt\n", 257, b"trace\n")?;
+    let checks = repeated(
+        alloc,
+        b"stage\n",
+        257,
+        b"accepted points 2 rank 2 steps 0\n",
+    )?;
+    shows(&rt, alloc, 100, b"A_\n", &script, b"ok", &checks)
 }

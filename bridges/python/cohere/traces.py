@@ -1,0 +1,39 @@
+"""Traces: certificates of closures, and the program's checker for them."""
+
+from __future__ import annotations
+
+from .answers import Verdict, read_verdict
+from .errors import error_of
+from .program import run
+
+__all__ = ["check"]
+
+# The statuses of a trace that is accepted, and of one that is not.
+_JUDGED = (0, 1)
+
+
+def check(trace: str) -> Verdict:
+    """Judge a trace, whoever made it.
+
+    A yes means that the claimed colouring is the coherent closure of the colours of the last stage, number
+    for number. The checker computes no closure.
+
+    Parameters
+    ----------
+    trace : str
+        The text of a trace, as `Configuration.trace` and `Session.trace` give it.
+
+    Returns
+    -------
+    Verdict
+        It is true where the trace is accepted.
+
+    Raises
+    ------
+    BadTrace
+        The text is not in the trace format.
+    """
+    ended = run(["check", "-"], stdin=trace)
+    if ended.status not in _JUDGED:
+        raise error_of(ended.status, ended.err.replace("cohere: -: ", "cohere: trace: ", 1), script="")
+    return read_verdict(ended.out)

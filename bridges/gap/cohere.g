@@ -11,7 +11,7 @@
 ##  Points and classes are numbered from 1 here, as in GRAPE and COCO2P: point
 ##  x of the program is point x+1, and its class k is class k+1. So a matrix of
 ##  classes has the entries 1 .. rank. Colours of a matrix that is handed over
-##  are any integers from 0 to 65535.
+##  are any integers from 0 to 1048575.
 ##
 ##  A configuration is a record with the components
 ##    points   the number of points

@@ -50,7 +50,7 @@ def closure(relation: Any) -> Configuration:
     Raises
     ------
     BadRelation
-        The program does not read the relation: more than 128 points, a bad byte of graph6, and so on.
+        The program does not read the relation: more than 256 points, a bad byte of graph6, and so on.
 
     Examples
     --------
@@ -94,7 +94,7 @@ class Configuration:
     Attributes
     ----------
     points : int
-        The number of points, 1 to 128.
+        The number of points, 1 to 256.
     rank : int
         The number of classes.
     matrix : list of list of int, points rows of points classes
@@ -278,7 +278,7 @@ class Configuration:
         Raises
         ------
         Refused
-            ``TooManyPoints``: the product has more than 128 points.
+            ``TooManyPoints``: the product has more than 256 points.
         """
         return _of_matrix(self._ask("direct product", relation_text(relation), ["show"]))
 

@@ -136,11 +136,11 @@ class Session:
         return answer
 
     def set(self, x: int, y: int, colour: int) -> Edited:
-        """Give the pair (x, y) the colour, which is at most 65,535."""
+        """Give the pair (x, y) the colour, which is at most 1,048,575."""
         return self.ask(f"set {x} {y} {colour}")
 
     def both(self, x: int, y: int, colour: int) -> Edited:
-        """Give the pairs (x, y) and (y, x) the colour, which is at most 65,535."""
+        """Give the pairs (x, y) and (y, x) the colour, which is at most 1,048,575."""
         return self.ask(f"both {x} {y} {colour}")
 
     def fix(self, x: int) -> Edited:

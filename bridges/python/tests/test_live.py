@@ -123,9 +123,9 @@ class Configurations(unittest.TestCase):
             ("", "NoLine", 0),
             ("?", "NoPoints", 0),
             (":An", "BadByte", 0),
-            ([[65536]], "ColourTooLarge", 9),
+            ([[1048576]], "ColourTooLarge", 9),
             ([], "NoPoints", 7),
-            ([[0] * 129] * 129, "TooManyPoints", 7),
+            ([[0] * 257] * 257, "TooManyPoints", 7),
         ]:
             with self.subTest(relation=str(relation)[:20]), self.assertRaises(cohere.BadRelation) as caught:
                 cohere.closure(relation)

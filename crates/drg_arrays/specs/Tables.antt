@@ -6,7 +6,7 @@ use Rattle.drg_arrays.specs.declared.levels.TheConstants.{UNREACHED}
 use Rattle.drg_arrays.specs.Graph.{Graph, is_edge, IsEdge}
 use Rattle.drg_arrays.specs.Distance.{HasWalk, IsDistance}
 
--- what the program keeps as a graph: 1 to 128 points, and whether each pair is an edge
+-- what the program keeps as a graph: 1 to 256 points, and whether each pair is an edge
 pub record FitsGraph (G : Graph) : Type 0 where
   pub has_points : 1 ≤ G.size
   pub limit : G.size ≤ MOST_POINTS

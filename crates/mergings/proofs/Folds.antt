@@ -5,6 +5,7 @@ use Rattle.std.proofs.lemmas.Bool.{cases_lt}
 use Rattle.std.proofs.lemmas.List.Sums.{sum_by-cons, sum_by_push, sum_by-le, count_by-le-length, length-filter}
 use Rattle.std.proofs.lemmas.List.FromFn.{length-range_with_len}
 use Rattle.pair_colours.specs.Colouring.{PairColouring, points, colour_at}
+use Rattle.pair_colours.specs.declared.coloured_pairs.TheConstants.{MOST_POINTS}
 use Rattle.pair_colours.specs.Naming.{rank_of}
 use Rattle.pair_colours.specs.IntersectionNumber.{intersection_number, pair_of_class}
 use Rattle.pair_colours.proofs.SortedLists.{In, In-points_from}
@@ -48,7 +49,7 @@ sums_exchanged f xs (y ∷ ys) =
 all_in : (P : ℕ → Type 0) (xs : List ℕ) → ((x : ℕ) → P x) → All P xs
 all_in P xs h = λ k d l. h (get_or xs k d)
 
-number_small : (K : PairColouring) → IsConfiguration K → (i j k : ℕ) → intersection_number K i j k ≤ 128
+number_small : (K : PairColouring) → IsConfiguration K → (i j k : ℕ) → intersection_number K i j k ≤ MOST_POINTS
 number_small K h i j k = omega (arith, count_by-le-length (λ z. (colour_at K (pair_of_class K k).0 z == i) && (colour_at K z (pair_of_class K k).1 == j)) (points K.size), length-range_with_len 0 K.size, h.fits.limit)
 
 length-block : (n : ℕ) (heads : List ℕ) (x : ℕ) → length (block_at n heads x) ≤ n
@@ -65,7 +66,7 @@ module _ (K : PairColouring) (h : IsConfiguration K) (small : rank_of K ≤ 16) 
   rows_exact j k lj lk =
       let left : List ℕ = block_at (rank_of K) heads x in
       let total : ℕ = sum_by (λ i. intersection_number K i j k) left in
-      let few : total ≤ length left * 128 = sum_by-le (λ i. intersection_number K i j k) 128 left (all_in (λ i. intersection_number K i j k ≤ 128) left (λ i. number_small K h i j k)) in
+      let few : total ≤ length left * MOST_POINTS = sum_by-le (λ i. intersection_number K i j k) MOST_POINTS left (all_in (λ i. intersection_number K i j k ≤ MOST_POINTS) left (λ i. number_small K h i j k)) in
       let low : total < 2 ^ 32 = omega (arith, few, length-block (rank_of K) heads x, small) in
       r (j * 16 + k) (omega (arith, lj, lk, small))
       ∙ ap (λ m. m % 2 ^ 32) (sum_by_agree_in (λ i. slice_index table (i * 256 + (j * 16 + k))) (λ i. intersection_number K i j k) left
@@ -74,10 +75,10 @@ module _ (K : PairColouring) (h : IsConfiguration K) (small : rank_of K ≤ 16) 
       ap (slice_index table) place ∙ t.each i j k (in_block (rank_of K) heads x i m) lj lk))
       ∙ mod-eq_of_lt low
 
-  row_few : (j k : ℕ) → j < rank_of K → k < rank_of K → slice_index rows (j * 16 + k) ≤ 2048
+  row_few : (j k : ℕ) → j < rank_of K → k < rank_of K → slice_index rows (j * 16 + k) ≤ 16 * MOST_POINTS
   row_few j k lj lk =
       let left : List ℕ = block_at (rank_of K) heads x in
-      let few : sum_by (λ i. intersection_number K i j k) left ≤ length left * 128 = sum_by-le (λ i. intersection_number K i j k) 128 left (all_in (λ i. intersection_number K i j k ≤ 128) left (λ i. number_small K h i j k)) in
+      let few : sum_by (λ i. intersection_number K i j k) left ≤ length left * MOST_POINTS = sum_by-le (λ i. intersection_number K i j k) MOST_POINTS left (all_in (λ i. intersection_number K i j k ≤ MOST_POINTS) left (λ i. number_small K h i j k)) in
       omega (arith, rows_exact j k lj lk, few, length-block (rank_of K) heads x, small)
 
   -- the coefficient of the product
@@ -87,8 +88,8 @@ module _ (K : PairColouring) (h : IsConfiguration K) (small : rank_of K ≤ 16) 
       let right : List ℕ = block_at (rank_of K) heads y in
       let agree : sum_by (λ j. slice_index rows (j * 16 + k)) right ≡ sum_by (λ j. sum_by (λ i. intersection_number K i j k) left) right =
       sum_by_agree_in (λ j. slice_index rows (j * 16 + k)) (λ j. sum_by (λ i. intersection_number K i j k) left) right (λ j m. rows_exact j k (in_block (rank_of K) heads y j m) lk) in
-      let few : sum_by (λ j. slice_index rows (j * 16 + k)) right ≤ length right * 2048 =
-      sum_most (λ j. slice_index rows (j * 16 + k)) 2048 right (λ j m. row_few j k (in_block (rank_of K) heads y j m) lk) in
+      let few : sum_by (λ j. slice_index rows (j * 16 + k)) right ≤ length right * (16 * MOST_POINTS) =
+      sum_most (λ j. slice_index rows (j * 16 + k)) (16 * MOST_POINTS) right (λ j m. row_few j k (in_block (rank_of K) heads y j m) lk) in
       let low : sum_by (λ j. slice_index rows (j * 16 + k)) right < 2 ^ 32 = omega (arith, few, length-block (rank_of K) heads y, small) in
       s y k (omega (arith, ly, small)) (omega (arith, lk, small))
       ∙ mod-eq_of_lt low

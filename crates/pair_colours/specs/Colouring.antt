@@ -44,7 +44,7 @@ points n = range_with_len 0 n
 abbrev pub triangles : PairColouring → ℕ → ℕ → ℕ → ℕ → ℕ
 triangles A x y i j = count_by (λ z. (colour_at A x z == i) && (colour_at A z y == j)) (points A.size)
 
--- what the program keeps as a `Colouring`: 1 to 128 points, and colours below 2^32
+-- what the program keeps as a `Colouring`: 1 to 256 points, and colours below 2^32
 pub record FitsColouring (A : PairColouring) : Type 0 where
   pub colouring : IsColouring A
   pub limit : A.size ≤ MOST_POINTS

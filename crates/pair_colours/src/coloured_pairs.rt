@@ -13,10 +13,10 @@ use std::alloc::Global;
 use std::marker::Model;
 
 /// The most points of a colouring.
-pub const MOST_POINTS: u32 = 128;
+pub const MOST_POINTS: u32 = 256;
 
 /// The greatest raw colour, the limit of a matrix text and of the edits.
-pub const MOST_COLOUR: u32 = 65_535;
+pub const MOST_COLOUR: u32 = 1_048_575;
 
 /// A colour for each ordered pair of the points below its size.
 #[derive(Drop)]

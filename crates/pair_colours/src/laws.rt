@@ -38,7 +38,7 @@ pub fn closed_sets()
     ensures unique { ClosedSetsAreUnique }
 {}
 
-/// There are at most 128 points, and raw colours are at most 65535.
+/// There are at most 256 points, and raw colours are at most 1048575.
 pub fn limits()
     ensures { AreLimits }
 {}

@@ -90,7 +90,7 @@ fn edits_of_the_pentagon(rt: HostRuntime) -> Result<(), Fail> {
         (9, 1, Ok(3)),
         (9, 1, Err(EditFault::ColourAbsent)),
         (1, 70_000, Err(EditFault::ColourAbsent)),
-        (9, 70_000, Err(EditFault::ColourRange)),
+        (9, 1_048_576, Err(EditFault::ColourRange)),
         (9, 9, Ok(3)),
     ] {
         gives(&rt, alloc, &mut bench, Edit::Join { keep, gone }, rank);
@@ -98,8 +98,8 @@ fn edits_of_the_pentagon(rt: HostRuntime) -> Result<(), Fail> {
     for (x, y, colour, rank) in [
         (0, 1, 8, Ok(25)),
         (5, 0, 70_000, Err(EditFault::PointRange)),
-        (4, 0, 65_536, Err(EditFault::ColourRange)),
-        (4, 0, 65_535, Ok(25)),
+        (4, 0, 1_048_576, Err(EditFault::ColourRange)),
+        (4, 0, 1_048_575, Ok(25)),
     ] {
         gives(&rt, alloc, &mut bench, Edit::Set { x, y, colour }, rank);
     }

@@ -40,9 +40,9 @@ const READINGS: [(&[u8], u32, &[u8]); 13] = [
     (b"&@_\n", 1, b"matrix 1\n3\n"),
     (b"matrix 2\n7 7\n7 7\n", 1, b"matrix 2\n7 7\n7 7\n"),
     (
-        b"&BP_\nmatrix 2\r\n \t0  65535 \r\n1 2\nx",
+        b"&BP_\nmatrix 2\r\n \t0  1048575 \r\n1 2\nx",
         2,
-        b"matrix 2\n0 65535\n1 2\n",
+        b"matrix 2\n0 1048575\n1 2\n",
     ),
     (b"&BP_\n", 1, b"matrix 3\n0 1 2\n2 0 1\n1 2 0\n"),
     (CUBE, 1, CUBE),
@@ -69,7 +69,7 @@ fn zeros(rt: &(impl Abort + AllocGlobal), size: &[u8], count: usize) -> Result<V
 
 #[test]
 fn long_sizes_are_read(rt: HostRuntime) -> Result<(), Fail> {
-    let sizes: [(&[u8], usize, u32); 2] = [(b"~??~", 326, 63), (b"~?A?", 1355, 128)];
+    let sizes: [(&[u8], usize, u32); 2] = [(b"~??~", 326, 63), (b"~?C?", 5440, 256)];
     for (size, count, points) in sizes {
         let relation = read(&rt, &zeros(&rt, size, count)?, 1)?;
         assert_eq!(rt; relation.size(), points);
@@ -78,22 +78,17 @@ fn long_sizes_are_read(rt: HostRuntime) -> Result<(), Fail> {
 }
 
 // Texts, the line that is asked for, and the fault with its place.
-const FAULTS: [(&[u8], u32, RelationWord, u32); 34] = [
+const FAULTS: [(&[u8], u32, RelationWord, u32); 35] = [
     (b"?\n", 1, RelationWord::NoPoints, 0),
     (b"DQd\n", 1, RelationWord::PadBits, 2),
     (b"DQ\n", 1, RelationWord::WrongLength, 2),
     (b"DQc?\n", 1, RelationWord::WrongLength, 4),
-    (b"~?~B\n", 1, RelationWord::TooManyPoints, 0),
+    (b"~?C@\n", 1, RelationWord::TooManyPoints, 0),
     (b"~??D\n", 1, RelationWord::SizeForm, 0),
     (b":An\n", 1, RelationWord::BadByte, 0),
     (b"", 1, RelationWord::NoLine, 0),
     (b"matrix 2\n0 1\n1\n", 1, RelationWord::MatrixCount, 14),
-    (
-        b"matrix 1\n4294967296\n",
-        1,
-        RelationWord::ColourTooLarge,
-        9,
-    ),
+    (b"matrix 1\n1048576\n", 1, RelationWord::ColourTooLarge, 9),
     (b"matrix 1\n07\n", 1, RelationWord::MatrixNumber, 9),
     (b"matrix x\n", 1, RelationWord::MatrixHead, 0),
     (b"DQc\nDhc\nD Q\n", 4, RelationWord::NoLine, 12),
@@ -115,6 +110,7 @@ const FAULTS: [(&[u8], u32, RelationWord, u32); 34] = [
     // Sizes.
     (b"~~????\n", 1, RelationWord::TooManyPoints, 0),
     (b"~?A\n", 1, RelationWord::WrongLength, 3),
+    (b"~?AB\n", 1, RelationWord::WrongLength, 4),
     (b"&\n", 1, RelationWord::WrongLength, 1),
     (b"&?\n", 1, RelationWord::NoPoints, 1),
     (b"&@@\n", 1, RelationWord::PadBits, 2),

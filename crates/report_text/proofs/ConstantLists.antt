@@ -77,14 +77,18 @@ over_class-le r k =
     let rows : sum_by (λ i. length (with_classes r k i)) (points r) ≤ length (points r) * r = sum_by-le (λ i. length (with_classes r k i)) r (points r) (λ n d l. row _) in
     omega (arith, length-flat_map (with_classes r k) (points r), rows, ap (λ m. m * r) len)
 
+-- how many classes there are at most, by a bound that is plain
+abbrev most_classes : ℕ
+most_classes = MOST_POINTS + MOST_POINTS * MOST_POINTS
+
 pub listed-few : (K : PairColouring) (k : ℕ) → FitsColouring K → k ≤ rank_of K → length (listed_below K k) < 2 ^ 64
 listed-few K k fits below =
     let r = rank_of K in
-    let most : r ≤ MOST_POINTS + MOST_POINTS * MOST_POINTS = omega (arith, colours_met-le K, fits.limit, mul-le K.size K.size MOST_POINTS MOST_POINTS fits.limit fits.limit) in
+    let most : r ≤ most_classes = omega (arith, colours_met-le K, fits.limit, mul-le K.size K.size MOST_POINTS MOST_POINTS fits.limit fits.limit) in
     let len : length (points k) ≡ k = length-range_with_len 0 k in
     let all : sum_by (λ c. length (over_class r c)) (points k) ≤ length (points k) * (r * r) = sum_by-le (λ c. length (over_class r c)) (r * r) (points k) (λ n d l. over_class-le r _) in
-    let square : r * r ≤ 16512 * 16512 = mul-le r r 16512 16512 most most in
-    let cube : k * (r * r) ≤ 16512 * (16512 * 16512) = mul-le k (r * r) 16512 (16512 * 16512) (omega (arith, below, most)) square in
+    let square : r * r ≤ most_classes * most_classes = mul-le r r most_classes most_classes most most in
+    let cube : k * (r * r) ≤ most_classes * (most_classes * most_classes) = mul-le k (r * r) most_classes (most_classes * most_classes) (omega (arith, below, most)) square in
     omega (
       arith,
       length-filter (is_nonzero_at K) (flat_map (over_class r) (points k)),

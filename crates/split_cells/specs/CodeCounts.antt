@@ -13,7 +13,7 @@ sum_count left right code = count_by (λ z. sum_at left right z == code) (points
 -- two lists of one length, short enough for counts, with sums below a bound
 pub record AreSides (left right : List ℕ) (bound : ℕ) : Type 0 where
   pub lens : length left ≡ length right
-  pub short : length left < 256
+  pub short : length left < 65536
   pub below : (z : ℕ) → z < length left → sum_at left right z < bound
 
 -- a list of n numbers, of which each comes as often as the counts say

@@ -9,7 +9,7 @@ ghost use Rattle.std.specs.Bool.{OnTrue, OnFalse};
 ghost use Rattle.split_cells.specs.CodeCounts.{AreSides, IsCountOf, sum_at, sum_count};
 
 // Makes the counts of these sums 0.
-pub(crate) fn clear(counts: &mut [u8], left: &[u16], right: &[u8])
+pub(crate) fn clear(counts: &mut [u16], left: &[u16], right: &[u8])
     requires sides { AreSides left.now right.now (length counts.old) }
     requires others { (code : ℕ) → sum_count left.now right.now code ≡ 0 → slice_index counts.old code ≡ 0 }
     ensures { (code : ℕ) → slice_index counts.new code ≡ 0 }
@@ -20,7 +20,7 @@ pub(crate) fn clear(counts: &mut [u8], left: &[u16], right: &[u8])
 }
 
 // Counts the sums.
-pub(crate) fn count_up(counts: &mut [u8], left: &[u16], right: &[u8])
+pub(crate) fn count_up(counts: &mut [u16], left: &[u16], right: &[u8])
     requires sides { AreSides left.now right.now (length counts.old) }
     requires blank { (code : ℕ) → slice_index counts.old code ≡ 0 }
     ensures { (code : ℕ) → slice_index counts.new code ≡ sum_count left.now right.now code }
@@ -31,7 +31,7 @@ pub(crate) fn count_up(counts: &mut [u8], left: &[u16], right: &[u8])
 }
 
 // Counts the sums, unless one comes more often than it should: then a place where it does.
-fn exceeding_up(want: &[u8], got: &mut [u8], left: &[u16], right: &[u8]) -> Option<usize>
+fn exceeding_up(want: &[u16], got: &mut [u16], left: &[u16], right: &[u8]) -> Option<usize>
     requires sides { AreSides left.now right.now (length got.old) }
     requires lens { length want.now ≡ length got.old }
     requires blank { (code : ℕ) → slice_index got.old code ≡ 0 }
@@ -50,7 +50,7 @@ fn exceeding_up(want: &[u8], got: &mut [u8], left: &[u16], right: &[u8]) -> Opti
 }
 
 // Takes the sums off the counts, unless one comes more often: then a place where it does.
-fn exceeding_down(counts: &mut [u8], left: &[u16], right: &[u8]) -> Option<usize>
+fn exceeding_down(counts: &mut [u16], left: &[u16], right: &[u8]) -> Option<usize>
     requires sides { AreSides left.now right.now (length counts.old) }
     ensures some { IfSome result (λ z. (z < length left.now) × (slice_index counts.old (sum_at left.now right.now z) < sum_count left.now right.now (sum_at left.now right.now z))) }
     ensures left { IfNone result ((code : ℕ) → slice_index counts.new code + sum_count left.now right.now code ≡ slice_index counts.old code) }
@@ -68,8 +68,8 @@ fn exceeding_down(counts: &mut [u8], left: &[u16], right: &[u8]) -> Option<usize
 // Compares how often the sums come with how often they should: a place where one comes more often,
 // or none if all come equally often. What was counted before decides the way.
 pub(crate) fn exceeding(
-    want: &[u8],
-    got: &mut [u8],
+    want: &[u16],
+    got: &mut [u16],
     up: bool,
     left: &[u16],
     right: &[u8],

@@ -71,7 +71,7 @@ fn lead(pairs: &ClassedPairs, x: u32) -> u32
 }
 
 // Gives each class in the row from x a place where it stands there.
-fn shorten(pairs: &ClassedPairs, short: &mut [u8], x: u32)
+fn shorten(pairs: &ClassedPairs, short: &mut [u16], x: u32)
     requires classed { IsClassed pairs.now }
     requires point { x < pairs.now.size }
     requires len { length short.old ≡ pairs.now.parting.rank }
@@ -79,12 +79,12 @@ fn shorten(pairs: &ClassedPairs, short: &mut [u8], x: u32)
 {
     let row = pairs.row(x);
     for z in 0..row.len() {
-        short[row[z] as usize] = z as u8;
+        short[row[z] as usize] = z as u16;
     }
 }
 
 // Gives each class in the row from the first point of a fibre a place where it stands there.
-pub(crate) fn short_numbers(pairs: &ClassedPairs, short: &mut [u8])
+pub(crate) fn short_numbers(pairs: &ClassedPairs, short: &mut [u16])
     requires classed { IsClassed pairs.now }
     requires used { IsUsed pairs.now.parting.class.items pairs.now.parting.rank }
     requires homes { HasHomes (partition_of pairs.now) }
@@ -101,7 +101,7 @@ pub(crate) fn short_numbers(pairs: &ClassedPairs, short: &mut [u8])
 
 // Writes the short numbers of the row from x. If a class in it has none, a step that parts x from
 // the first point of its fibre.
-fn code_row(pairs: &ClassedPairs, short: &[u8], codes: &mut Codes, x: u32) -> Option<Step>
+fn code_row(pairs: &ClassedPairs, short: &[u16], codes: &mut Codes, x: u32) -> Option<Step>
     requires classed { IsClassed pairs.now }
     requires used { IsUsed pairs.now.parting.class.items pairs.now.parting.rank }
     requires settled { IsSettled (partition_of pairs.now) }
@@ -125,14 +125,14 @@ fn code_row(pairs: &ClassedPairs, short: &[u8], codes: &mut Codes, x: u32) -> Op
                 right: pairs.column(x)[z as usize],
             });
         }
-        codes.lefts[(x * size + z) as usize] = u16::from(number) * size as u16;
-        codes.rights[(x * size + z) as usize] = number;
+        codes.lefts[(x * size + z) as usize] = number * size as u16;
+        codes.rights[(x * size + z) as usize] = number as u8;
     }
     None
 }
 
 // Writes the short numbers of all rows, or else gives a step that is not idle.
-pub(crate) fn code_rows(pairs: &ClassedPairs, short: &[u8], codes: &mut Codes) -> Option<Step>
+pub(crate) fn code_rows(pairs: &ClassedPairs, short: &[u16], codes: &mut Codes) -> Option<Step>
     requires classed { IsClassed pairs.now }
     requires used { IsUsed pairs.now.parting.class.items pairs.now.parting.rank }
     requires settled { IsSettled (partition_of pairs.now) }

@@ -111,8 +111,8 @@ fn step_over(pairs: &ClassedPairs, q: u32, z: u32) -> Step
 fn odd_pair(
     pairs: &ClassedPairs,
     codes: &Codes,
-    want: &[u8],
-    got: &mut [u8],
+    want: &[u16],
+    got: &mut [u16],
     members: &[u32],
 ) -> Option<Step>
     requires classed { IsClassed pairs.now }
@@ -147,8 +147,8 @@ fn odd_pair(
 fn triangle_fault_in(
     pairs: &ClassedPairs,
     codes: &Codes,
-    want: &mut [u8],
-    got: &mut [u8],
+    want: &mut [u16],
+    got: &mut [u16],
     k: u32,
 ) -> Option<Step>
     requires classed { IsClassed pairs.now }
@@ -183,8 +183,8 @@ fn triangle_fault_in(
 fn triangle_fault(
     pairs: &ClassedPairs,
     codes: &Codes,
-    want: &mut [u8],
-    got: &mut [u8],
+    want: &mut [u16],
+    got: &mut [u16],
 ) -> Option<Step>
     requires classed { IsClassed pairs.now }
     requires used { IsUsed pairs.now.parting.class.items pairs.now.parting.rank }
@@ -206,10 +206,10 @@ fn triangle_fault(
 // A step that is not idle, by tables for the test.
 fn fault_by(
     pairs: &ClassedPairs,
-    short: &mut [u8],
+    short: &mut [u16],
     codes: &mut Codes,
-    want: &mut [u8],
-    got: &mut [u8],
+    want: &mut [u16],
+    got: &mut [u16],
 ) -> Option<Step>
     requires classed { IsClassed pairs.now }
     requires used { IsUsed pairs.now.parting.class.items pairs.now.parting.rank }
@@ -234,7 +234,7 @@ fn fault_by(
 }
 
 // So many counts 0.
-fn zeros(alloc: Global, len: u32) -> Result<Vec<u8>, NoMemory>
+fn zeros(alloc: Global, len: u32) -> Result<Vec<u16>, NoMemory>
     ensures len { IfOk result (λ v. length v.items ≡ len) }
     ensures zero { IfOk result (λ v. (k : ℕ) → slice_index v.items k ≡ 0) }
 {

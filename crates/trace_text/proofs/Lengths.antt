@@ -45,7 +45,7 @@ lines-le b (line ∷ lines) a =
 
 -- how many digits a colour or a number of a step has at most
 abbrev most_digits : ℕ
-most_digits = 5
+most_digits = 7
 
 few_digits : (n : ℕ) → n < 10 ^ most_digits → length (decimal n) ≤ most_digits
 few_digits n h = length-decimal-le most_digits n (omega arith) h (omega (arith, h))

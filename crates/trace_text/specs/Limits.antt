@@ -4,7 +4,7 @@ use Rattle.trace_text.specs.declared.limits.TheConstants.{MOST_TRACE, MOST_STEP_
 
 -- the limits are these
 pub record AreLimits : Type 0 where
-  pub bytes : MOST_TRACE ≡ 67108864
+  pub bytes : MOST_TRACE ≡ 268435456
   pub step_number : MOST_STEP_NUMBER ≡ 65535
 
 -- how many stages a chain may have so that its text is within the limit

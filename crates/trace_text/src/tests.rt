@@ -39,10 +39,10 @@ fn faults_of_texts(rt: HostRuntime) {
         (b"trace 9\npoints 2\n", 1, TraceWord::Head),
         (b"trace 1", 2, TraceWord::Points),
         (b"trace 1\npoints 0\n", 2, TraceWord::Points),
-        (b"trace 1\npoints 129\n", 2, TraceWord::Points),
+        (b"trace 1\npoints 257\n", 2, TraceWord::Points),
         (b"trace 1\npoints 1\nclosure\n", 3, TraceWord::Stage),
         (b"trace 1\npoints 1\nstage\n0 \n", 4, TraceWord::Row),
-        (b"trace 1\npoints 1\nstage\n65536\n", 4, TraceWord::Row),
+        (b"trace 1\npoints 1\nstage\n1048576\n", 4, TraceWord::Row),
         (b"trace 1\npoints 2\nstage\n0 1\n1\n", 5, TraceWord::Row),
         (
             b"trace 1\npoints 1\nstage\n0\nD 65536\n",

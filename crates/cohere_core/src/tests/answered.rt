@@ -82,7 +82,7 @@ ok points 5 rank 25
 15 16 17 18 19
 20 21 22 23 24
 ",
-        b"undo\nset 9 0 1\nset 0 0 70000\nshow\n",
+        b"undo\nset 9 0 1\nset 0 0 1048576\nshow\n",
         b"refused NothingToUndo
 refused PointRange
 refused ColourRange

@@ -60,7 +60,7 @@ const REFUSED: [(&[u8], &[u8]); 7] = [
 ];
 
 // Files that are no trace.
-const BAD: [(&[u8], &[u8]); 8] = [
+const BAD: [(&[u8], &[u8]); 9] = [
     (
         b"trace 1\npoints 2\nstage\n7 7\n7 7\nD 0\nclosure\n0 1\n1 0\n",
         b"cohere: T: line 10 End\n",
@@ -70,8 +70,12 @@ const BAD: [(&[u8], &[u8]); 8] = [
         b"cohere: T: line 1 Head\n",
     ),
     (
-        b"trace 1\npoints 129\nstage\n7 7\n7 7\nD 0\nclosure\n0 1\n1 0\nend\n",
+        b"trace 1\npoints 257\nstage\n7 7\n7 7\nD 0\nclosure\n0 1\n1 0\nend\n",
         b"cohere: T: line 2 Points\n",
+    ),
+    (
+        b"trace 1\npoints 129\nstage\n7 7\n7 7\nD 0\nclosure\n0 1\n1 0\nend\n",
+        b"cohere: T: line 4 Row\n",
     ),
     (
         b"trace 1\npoints 2\nstage\n7 7 7\n7 7\nD 0\nclosure\n0 1\n1 0\nend\n",

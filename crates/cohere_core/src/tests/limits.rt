@@ -33,24 +33,24 @@ const RAW_2: &[u8] = b"raw points 2 colours 2\n0 1\n1 0\n";
 // Relations and scripts of one line or a few, within the limits.
 const WITHIN: [(&[u8], &[u8], &[u8]); 3] = [
     (
-        b"matrix 1\n65535\n",
+        b"matrix 1\n1048575\n",
         b"raw",
-        b"raw points 1 colours 1\n65535\n",
+        b"raw points 1 colours 1\n1048575\n",
     ),
     (
         b"@\n",
-        b"set 0 0 65535\nset 0 0 65536\nraw\n",
-        b"ok points 1 rank 1\nrefused ColourRange\nraw points 1 colours 1\n65535\n",
+        b"set 0 0 1048575\nset 0 0 1048576\nraw\n",
+        b"ok points 1 rank 1\nrefused ColourRange\nraw points 1 colours 1\n1048575\n",
     ),
     (b"A_\n", b"mergings 10000", b"mergings\n0 1\nend\n"),
 ];
 
 // And some that are past one.
 const PAST: [(&[u8], &[u8], &[u8]); 4] = [
-    (b"~?A@\n", b"raw", b"cohere: R: TooManyPoints at 0\n"),
-    (b"matrix 129\n", b"raw", b"cohere: R: TooManyPoints at 7\n"),
+    (b"~?C@\n", b"raw", b"cohere: R: TooManyPoints at 0\n"),
+    (b"matrix 257\n", b"raw", b"cohere: R: TooManyPoints at 7\n"),
     (
-        b"matrix 1\n65536\n",
+        b"matrix 1\n1048576\n",
         b"raw",
         b"cohere: R: ColourTooLarge at 9\n",
     ),
@@ -83,20 +83,20 @@ fn limits_of_numbers(rt: HostRuntime) -> Result<(), Fail> {
     expect(&rt, alloc, 201, &words, b"A_\n", b"raw", short)
 }
 
-const CLASSES_128: &[u8] = b"classes 2
-class 0 size 128 valency 1 transpose 0 pair 0 0 fibres 0 0
-class 1 size 16256 valency 127 transpose 1 pair 0 1 fibres 0 0
+const CLASSES_256: &[u8] = b"classes 2
+class 0 size 256 valency 1 transpose 0 pair 0 0 fibres 0 0
+class 1 size 65280 valency 255 transpose 1 pair 0 1 fibres 0 0
 ";
 
 #[test]
 fn limits_of_relations(rt: HostRuntime) -> Result<(), Fail> {
     let alloc = rt.alloc();
     // Points, of a graph without edges and of a matrix of zeros.
-    let graph = padded(alloc, b"~?A?", 1359)?;
-    answers(&rt, alloc, 0, &graph, b"classes", CLASSES_128)?;
-    let row = repeated(alloc, b"0", b" 0", 127, b"\n")?;
-    let matrix = repeated(alloc, b"matrix 128\n", &row, 128, b"")?;
-    answers(&rt, alloc, 1, &matrix, b"classes", CLASSES_128)?;
+    let graph = padded(alloc, b"~?C?", 5444)?;
+    answers(&rt, alloc, 0, &graph, b"classes", CLASSES_256)?;
+    let row = repeated(alloc, b"0", b" 0", 255, b"\n")?;
+    let matrix = repeated(alloc, b"matrix 256\n", &row, 256, b"")?;
+    answers(&rt, alloc, 1, &matrix, b"classes", CLASSES_256)?;
     // Bytes of the file.
     let most = padded(alloc, b"A_\n", 4_194_304)?;
     answers(&rt, alloc, 2, &most, b"raw", RAW_2)?;

@@ -19,7 +19,7 @@ const PATH: &[u8] = b"DQc\n";
 const FILES: [(&str, &[u8]); 4] = [("F", EDGE), ("P", b"@\n"), ("C", CUBE), ("B", b"DQd\n")];
 
 // Relation, script, status, answers, and the line that is said.
-const ROWS: [(&[u8], &[u8], Status, &[u8], &[u8]); 9] = [
+const ROWS: [(&[u8], &[u8], Status, &[u8], &[u8]); 10] = [
     (
         EDGE,
         b"direct F\nshow\nmergings 9\ntrace\n",
@@ -83,6 +83,21 @@ mergings
 0 1 1 1 1 1 1 1 1 1 1 1 1 1 1 1
 next after 0 1 1 1 1 1 1 1 1 1 1 1 1 1 1 1
 refused TooManyPoints
+refused TooManyPoints
+",
+        b"",
+    ),
+    (
+        EDGE,
+        b"direct F\ndirect F\ndirect F\ndirect F\ndirect F\ndirect F\ndirect F\ndirect F\n",
+        Status::Done,
+        b"ok points 4 rank 4
+ok points 8 rank 8
+ok points 16 rank 16
+ok points 32 rank 32
+ok points 64 rank 64
+ok points 128 rank 128
+ok points 256 rank 256
 refused TooManyPoints
 ",
         b"",

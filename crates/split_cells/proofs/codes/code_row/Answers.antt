@@ -51,7 +51,7 @@ loop-z-preserved c =
     let hz : z < n = omega (arith, c.loop-z-test.true, c.points-size.ensures) in
     let row = c.row-row.ensures.entries z hz in
     let number = get_or short (get_or c.row-row.result.now z 0) 0 in
-    let left = c.from.result * c.points-size.result in
+    let left = number * c.points-size.result in
     let first = c.row-first.ensures.entries number (c.requires.short.low (get_or c.row-row.result.now z 0)) ∙ ap (λ l. class_at pairs.parting (l * n + number)) c.lead.ensures.lead in
     let known : class_at pairs.parting (lead_of pairs (fibre_of pairs ((x * n + z) / n)) * n + number) ≡ class_at pairs.parting (x * n + z) =
     ap (λ w. class_at pairs.parting (lead_of pairs (fibre_of pairs w) * n + number)) (div-mul-add x n z hz) ∙ sym first ∙ c.if-first-number.false ∙ row in
@@ -63,7 +63,7 @@ loop-z-preserved c =
     let whole : x * n + z + 1 ≡ x * n + (z + 1) = omega arith in
     subst (λ t. IsCodedTo pairs short t new) whole
     (IsCodedTo-more pairs short (x * n + z) left number old new (place_below n x z c.requires.point hz) (ap (λ k. get_or short k 0) row)
-    (λ i. c.from.ensures i * c.points-size.ensures i) known
+    (λ i. number * c.points-size.ensures i) known
     (ap (λ m. set old.lefts.items (x * m + z) left) c.points-size.ensures) (ap (λ m. set old.rights.items (x * m + z) number) c.points-size.ensures) c.loop-z.invariant)
 
 pub returns-clause-none : goal.returns-clause-none

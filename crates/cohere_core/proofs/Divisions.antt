@@ -10,7 +10,8 @@ use Rattle.pair_colours.proofs.LawProofs.{colour_set_or_not}
 use Rattle.pair_colours.proofs.ColourSets.{implies_or_not, symmetric_or_not}
 use Rattle.pair_colours.proofs.Reaching.{all_below}
 use Rattle.quotients.specs.Law.{IsParted}
-use Rattle.quotients.specs.Quotient.{HasOneFibre, IsClosedSubset, Quotient, Subscheme}
+use Rattle.pair_colours.specs.Fibres.{HasOneFibre}
+use Rattle.quotients.specs.Quotient.{IsClosedSubset, Quotient, Subscheme}
 use Rattle.quotients.proofs.LawProofs.{quotient_exists, quotient_is_unique, subscheme_exists, subscheme_is_unique}
 use Rattle.quotients.specs.declared.dividing.QuotientFault.{QuotientFault}
 use Rattle.quotients.specs.declared.dividing.QuotientFault.TheVariants as faults

@@ -5,7 +5,8 @@ use Rattle.pair_colours.specs.ColourSets.{is_in}
 use Rattle.pair_colours.specs.ClosedSet.{ClosedSets}
 use Rattle.pair_colours.specs.Naming.{rank_of}
 use Rattle.visitors.specs.declared.visitor.TheConstants.{MOST_SET_RANK}
-use Rattle.quotients.specs.Quotient.{HasOneFibre, IsClosedSubset, Quotient, Subscheme}
+use Rattle.pair_colours.specs.Fibres.{HasOneFibre}
+use Rattle.quotients.specs.Quotient.{IsClosedSubset, Quotient, Subscheme}
 use Rattle.report_text.specs.EditLines.{refused_text_of}
 use Rattle.report_text.specs.Matrices.{quotient_text, sub_text}
 use Rattle.report_text.specs.Sets.{sets_text_of}

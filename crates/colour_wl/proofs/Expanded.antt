@@ -9,7 +9,7 @@ use Rattle.std.proofs.lemmas.List.Elements.{recursion_from_All}
 use Rattle.std.proofs.lemmas.List.Sums.{sum_by-cons, sum_by-append}
 use Rattle.pair_colours.specs.Colouring.{PairColouring, colour_at, points, triangles}
 use Rattle.pair_colours.specs.SideCodes.{code_of_pair, side_code, side_codes}
-use Rattle.pair_colours.proofs.Counts.{unit_of, count_by-cons, count_by-map, count_by_points, IsPermutation-from_counts, sum_by_points_agree}
+use Rattle.pair_colours.proofs.Counts.{unit_of, count_by-cons, count_by-map, count_by_points, IsPermutation-from_counts, sum_by_add, sum_by_points_agree}
 use Rattle.pair_colours.proofs.Measure.{sum_by_points_more}
 use Rattle.triangle_count.specs.declared.rows.Entry.{Entry}
 use Rattle.triangle_count.specs.Row.{Precedes, IsRowAt}
@@ -17,7 +17,7 @@ use Rattle.struct_consts.specs.ClassData.{IsConfiguration}
 use Rattle.struct_consts.proofs.Sums.{counted}
 use Rattle.colour_wl.specs.Fusions.{merge}
 use Rattle.pair_colours.proofs.SortedLists.{In, In_from_Contains, Ordered, Ordered_from_pairs, each_in}
-use Rattle.colour_wl.proofs.Sums.{sum_by_agree, sum_by_add, sum_by_zero, sum_by_times_right}
+use Rattle.colour_wl.proofs.Sums.{sum_by_agree, sum_by_zero, sum_by_times_right}
 use Rattle.colour_wl.proofs.Merged.{colour_at-merge}
 
 sum_by_agree_each : {X : Type 0} (f g : X → ℕ) (xs : List X) → AllByRecursion (λ x. f x ≡ g x) xs → sum_by f xs ≡ sum_by g xs

@@ -7,12 +7,13 @@ use Rattle.std.proofs.lemmas.List.FromFn.{length-range_with_len}
 use Rattle.pair_colours.specs.Colouring.{PairColouring, points, colour_at}
 use Rattle.pair_colours.specs.declared.coloured_pairs.TheConstants.{MOST_POINTS}
 use Rattle.pair_colours.specs.Naming.{rank_of}
+use Rattle.pair_colours.proofs.Counts.{sum_by_add}
 use Rattle.pair_colours.specs.IntersectionNumber.{intersection_number, pair_of_class}
 use Rattle.pair_colours.proofs.SortedLists.{In, In-points_from}
 use Rattle.pair_colours.proofs.SubsetLemmas.{In-filter_from}
 use Rattle.struct_consts.specs.ClassData.{IsConfiguration}
 use Rattle.colour_wl.specs.BlockSums.{product_at}
-use Rattle.colour_wl.proofs.Sums.{sum_by_zero, sum_by_add}
+use Rattle.colour_wl.proofs.Sums.{sum_by_zero}
 use Rattle.good_subsets.specs.Products.{IsTable}
 use Rattle.visitors.proofs.MaskSets.{filter_yes, filter_no}
 use Rattle.mergings.specs.Searches.{block_at}

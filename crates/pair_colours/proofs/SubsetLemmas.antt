@@ -92,7 +92,7 @@ pub subsets_listed : (n : ℕ) (set : List ℕ) → IsSetBelow n set → In set 
 subsets_listed n set s = subst (λ l. In l (subsets n)) (sym (set_is_filter n set s)) (filtered_listed (is_in set) n)
 
 -- points in two parts
-points_add : (m k : ℕ) → points (m + k) ≡ points m ++ map (λ i. m + i) (points k)
+pub points_add : (m k : ℕ) → points (m + k) ≡ points m ++ map (λ i. m + i) (points k)
 points_add m zero = let e : m + 0 ≡ m = omega arith in ap points e ∙ sym (append-nil (points m))
 points_add m (suc k) =
     let e : m + suc k ≡ m + k + 1 = omega arith in

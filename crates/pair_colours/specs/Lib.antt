@@ -1,5 +1,6 @@
 pub mod Colouring
 pub mod Naming
+pub mod Fibres
 pub mod Closure
 pub mod Rounds
 pub mod IntersectionNumber

@@ -5,7 +5,7 @@ use Rattle.pair_colours.specs.Colouring.{PairColouring, colour_at, points, trian
 use Rattle.pair_colours.specs.Closure.{Coherent}
 use Rattle.pair_colours.proofs.Counts.{unit_of, sum_by_points_agree}
 use Rattle.pair_colours.proofs.Exists.{by_pairs, colour_at-by_pairs}
-use Rattle.products.specs.Product.{HasOneFibre}
+use Rattle.pair_colours.specs.Fibres.{HasOneFibre}
 use Rattle.products.proofs.Sums.{sum_sides, sum_grid}
 
 -- the colour b of B, off the diagonal, is joined with every colour of A to one and the same, and so is each other that is not on the diagonal alone

@@ -4,7 +4,8 @@ use Rattle.std.proofs.lemmas.Bool.{cases_eq, cases_lt, cases_Bool, eq-eqb, ne_eq
 use Rattle.std.proofs.lemmas.Nat.{mod_below}
 use Rattle.pair_colours.specs.Colouring.{PairColouring, colour_at}
 use Rattle.pair_colours.specs.Closure.{Coherent}
-use Rattle.products.specs.Product.{HasOneFibre, IsNamedLabelling, direct_label, wreath_label, DirectProduct, WreathProduct}
+use Rattle.pair_colours.specs.Fibres.{HasOneFibre}
+use Rattle.products.specs.Product.{IsNamedLabelling, direct_label, wreath_label, DirectProduct, WreathProduct}
 use Rattle.products.proofs.Numbers.{number_of, number_of-one}
 use Rattle.products.proofs.Labellings.{labelling_is_coherent}
 use Rattle.products.proofs.Fusions.{Loose, IsJoining, IsJoined, joined_is_coherent}

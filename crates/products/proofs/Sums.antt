@@ -5,7 +5,7 @@ use Rattle.std.proofs.lemmas.List.Sums.{sum_by-cons}
 use Rattle.std.proofs.lemmas.List.Sorted.{sum_by-IsPermutation}
 use Rattle.pair_colours.specs.Colouring.{PairColouring, colour_at, points}
 use Rattle.pair_colours.specs.Closure.{Coherent}
-use Rattle.pair_colours.proofs.Counts.{sum_by_points_agree}
+use Rattle.pair_colours.proofs.Counts.{sum_by_add, sum_by_points_agree}
 use Rattle.pair_colours.proofs.Measure.{sum_by_points_more}
 use Rattle.pair_colours.proofs.Rounds.{sides, IsPermutation-sides}
 
@@ -34,11 +34,6 @@ sum_split f a (suc k) =
     let left : sum_by f (points (a + suc k)) ≡ sum_by f (points (a + k)) + f (a + k) = ap (λ n. sum_by f (points n)) m ∙ sum_by_points_more f (a + k) in
     omega (arith, left, sum_split f a k, sum_by_points_more (λ w. f (a + w)) k)
 
-sum_by_add : (f g : ℕ → ℕ) (n : ℕ) → sum_by (λ z. f z + g z) (points n) ≡ sum_by f (points n) + sum_by g (points n)
-sum_by_add f g zero = refl
-sum_by_add f g (suc n) =
-    omega (arith, sum_by_points_more (λ z. f z + g z) n, sum_by_points_more f n, sum_by_points_more g n, sum_by_add f g n)
-
 sum_by_zero : (n : ℕ) → sum_by (λ z. 0) (points n) ≡ 0
 sum_by_zero zero = refl
 sum_by_zero (suc n) = omega (arith, sum_by_points_more (λ z. 0) n, sum_by_zero n)
@@ -58,4 +53,4 @@ sum_grid f (suc n) m =
     ap (λ k. sum_by (λ p. f (p / m) (p % m)) (points k)) size
     ∙ sum_split (λ p. f (p / m) (p % m)) (n * m) m
     ∙ (λ i. sum_grid f n m i + row i)
-    ∙ sym (columns ∙ sum_by_add (λ w. sum_by (λ z. f z w) (points n)) (λ w. f n w) m)
+    ∙ sym (columns ∙ sum_by_add (λ w. sum_by (λ z. f z w) (points n)) (λ w. f n w) (points m))

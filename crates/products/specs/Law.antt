@@ -2,7 +2,8 @@
 use Rattle.std.specs.Prelude.{◌≡◌}
 use Rattle.pair_colours.specs.Colouring.{PairColouring, IsColouring}
 use Rattle.pair_colours.specs.Closure.{Coherent}
-use Rattle.products.specs.Product.{HasOneFibre, DirectProduct, WreathProduct}
+use Rattle.pair_colours.specs.Fibres.{HasOneFibre}
+use Rattle.products.specs.Product.{DirectProduct, WreathProduct}
 
 -- the direct product of coherent colourings is coherent
 abbrev pub DirectIsCoherent : Type 0

@@ -3,10 +3,6 @@ use Rattle.std.specs.Prelude.{◌≡◌, ◌==◌, ◌↔◌, ℕ, ◌*◌, ◌/
 use Rattle.pair_colours.specs.Colouring.{PairColouring, IsColouring, colour_at}
 use Rattle.pair_colours.specs.Naming.{named_of}
 
--- all diagonal pairs have one colour
-pub record HasOneFibre (K : PairColouring) : Type 0 where
-  pub one_fibre : (x y : ℕ) → x < K.size → y < K.size → colour_at K x x ≡ colour_at K y y
-
 -- P is the named colouring of the pairs of n points in which pairs are alike exactly where their labels agree
 pub record IsNamedLabelling (n : ℕ) (label : ℕ → ℕ → ℕ × ℕ) (P : PairColouring) : Type 0 where
   pub colouring : IsColouring P

@@ -1,7 +1,7 @@
 //! Direct and wreath products of coherent configurations (Bailey, Association Schemes, 2004,
 //! chapter 3). With m the points of the second factor, the point (x, u) of a product is x * m + u.
 //!
-//! * `multiplying`: `direct` and `wreath`, and why there is no product; `has_one_fibre`.
+//! * `multiplying`: `direct` and `wreath`, and why there is no product.
 //! * `labelling`: the labels of the pairs of a product, in two parts.
 //! * `laws`: products are coherent; there is one of each kind.
 //!
@@ -14,4 +14,4 @@ mod multiplying;
 #[cfg(test)]
 mod tests;
 
-pub use multiplying::{ProductFault, direct, has_one_fibre, wreath};
+pub use multiplying::{ProductFault, direct, wreath};

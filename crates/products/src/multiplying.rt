@@ -2,14 +2,14 @@
 
 ghost use Rattle.std.specs.Prelude.{◌≡◌, ◌↔◌, ◌<◌, ◌≤◌, ◌*◌, ℕ, IsTrue, IfOk, IsErrOf};
 ghost use Rattle.pair_colours.specs.declared.coloured_pairs.TheConstants.{MOST_POINTS};
-ghost use Rattle.pair_colours.specs.Colouring.{FitsColouring};
 ghost use Rattle.pair_colours.specs.Closure.{Coherent};
 ghost use Rattle.products.specs.declared.multiplying.ProductFault.TheVariants.{NoMemory as fault_no_memory};
-ghost use Rattle.products.specs.Product.{HasOneFibre, DirectProduct, WreathProduct, IsNamedLabelling};
+ghost use Rattle.pair_colours.specs.Fibres.{HasOneFibre};
+ghost use Rattle.products.specs.Product.{DirectProduct, WreathProduct, IsNamedLabelling};
 ghost use Rattle.products.specs.Steps.{label_of};
 
 use crate::labelling::{ProductKind, labels};
-use pair_colours::{Colouring, MOST_POINTS, NoMemory};
+use pair_colours::{Colouring, MOST_POINTS, NoMemory, has_one_fibre};
 use std::alloc::Global;
 
 /// Why there is no product.
@@ -66,21 +66,6 @@ pub fn wreath(alloc: Global, a: &Colouring, b: &Colouring) -> Result<Colouring, 
         return Err(ProductFault::NotHomogeneous);
     }
     Ok(multiplied(alloc, a, b, ProductKind::Wreath)?)
-}
-
-/// Whether all diagonal pairs have one colour.
-pub fn has_one_fibre(colouring: &Colouring) -> bool
-    ensures answer { IsTrue result ↔ HasOneFibre colouring.now }
-    ensures within { FitsColouring colouring.now }
-{
-    let size = colouring.size();
-    let first = colouring.get(0, 0);
-    for x in 0..size {
-        if colouring.get(x, x) != first {
-            return false;
-        }
-    }
-    true
 }
 
 // The product of this kind.

@@ -3,13 +3,8 @@ use Rattle.std.proofs.Common.{◌≡◌, ◌==◌, ℕ, suc, zero, ◌+◌, ◌*
 use Rattle.std.proofs.lemmas.Bool.{cases_eq, cases_lt, eq-eqb, ne_eqb}
 use Rattle.std.proofs.lemmas.Nat.{div-mul-add}
 use Rattle.pair_colours.specs.Colouring.{points}
-use Rattle.pair_colours.proofs.Counts.{unit_of, sum_by_points_agree}
+use Rattle.pair_colours.proofs.Counts.{unit_of, sum_by_add, sum_by_points_agree}
 use Rattle.pair_colours.proofs.Measure.{sum_by_points_more}
-
-sum_by_add : (f g : ℕ → ℕ) (n : ℕ) → sum_by (λ z. f z + g z) (points n) ≡ sum_by f (points n) + sum_by g (points n)
-sum_by_add f g zero = refl
-sum_by_add f g (suc n) =
-    omega (arith, sum_by_points_more (λ z. f z + g z) n, sum_by_points_more f n, sum_by_points_more g n, sum_by_add f g n)
 
 -- a common factor
 pub sum_by_times : (f : ℕ → ℕ) (h n : ℕ) → sum_by (λ z. f z * h) (points n) ≡ sum_by f (points n) * h
@@ -56,7 +51,7 @@ sum_fibres T g (suc n) k h =
     let more = sum_by_points_more (λ z. T (g z)) n in
     let parts = sum_by_points_agree (λ r. T r * count_by (λ z. g z == r) (points (suc n))) (λ r. T r * count_by (λ z. g z == r) (points n) + T r * unit_of (g n == r)) k
     (λ r l. ap (λ m. T r * m) (sum_by_points_more (λ z. unit_of (g z == r)) n) ∙ spread (T r) (count_by (λ z. g z == r) (points n)) (unit_of (g n == r))) in
-    let apart = sum_by_add (λ r. T r * count_by (λ z. g z == r) (points n)) (λ r. T r * unit_of (g n == r)) k in
+    let apart = sum_by_add (λ r. T r * count_by (λ z. g z == r) (points n)) (λ r. T r * unit_of (g n == r)) (points k) in
     omega (arith, more, parts, apart, sum_by_one T k (g n) (h n (omega arith)), sum_fibres T g n k (λ z l. h z (omega (arith, l))))
   where
     spread : (a b c : ℕ) → a * (b + c) ≡ a * b + a * c

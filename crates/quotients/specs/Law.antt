@@ -3,7 +3,8 @@ use Rattle.std.specs.Prelude.{◌≡◌, ℕ, ◌<◌, Bool}
 use Rattle.pair_colours.specs.Colouring.{PairColouring, IsColouring}
 use Rattle.pair_colours.specs.Closure.{Coherent}
 use Rattle.pair_colours.specs.ClosedSet.{IsClosedSet}
-use Rattle.quotients.specs.Quotient.{HasOneFibre, IsMet, MeetSame, Quotient, Subscheme}
+use Rattle.pair_colours.specs.Fibres.{HasOneFibre}
+use Rattle.quotients.specs.Quotient.{IsMet, MeetSame, Quotient, Subscheme}
 
 -- a coherent configuration with one fibre, and a closed set of its colours
 pub record IsParted (K : PairColouring) (set : ℕ → Bool) : Type 0 where

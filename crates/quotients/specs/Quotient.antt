@@ -6,10 +6,6 @@ use Rattle.pair_colours.specs.ColourSets.{is_in, IsColourSet}
 use Rattle.pair_colours.specs.ClosedSet.{IsClosedSet}
 use Rattle.pair_colours.specs.Naming.{named_of}
 
--- all diagonal pairs have one colour
-pub record HasOneFibre (K : PairColouring) : Type 0 where
-  pub one_fibre : (x y : ℕ) → x < K.size → y < K.size → colour_at K x x ≡ colour_at K y y
-
 -- each number of the set is a colour, and the pairs with a colour in the set form an equivalence relation
 pub record IsClosedSubset (K : PairColouring) (set : List ℕ) : Type 0 where
   pub colours : IsColourSet K set

@@ -6,12 +6,13 @@ ghost use Rattle.pair_colours.specs.Closure.{Coherent};
 ghost use Rattle.pair_colours.specs.ColourSets.{is_in};
 ghost use Rattle.pair_colours.specs.Naming.{named_of};
 ghost use Rattle.quotients.specs.declared.dividing.QuotientFault.TheVariants.{NoMemory as fault_no_memory};
-ghost use Rattle.quotients.specs.Quotient.{HasOneFibre, IsClosedSubset, Quotient, Subscheme};
+ghost use Rattle.pair_colours.specs.Fibres.{HasOneFibre};
+ghost use Rattle.quotients.specs.Quotient.{IsClosedSubset, Quotient, Subscheme};
 ghost use Rattle.quotients.specs.Steps.{AreLeasts};
 
 use crate::classes::{is_closed, least_points};
 use crate::parts::{cut_out, divided};
-use pair_colours::{ColourSet, Colouring, NoMemory, is_colour_set};
+use pair_colours::{ColourSet, Colouring, NoMemory, has_one_fibre, is_colour_set};
 use std::alloc::Global;
 
 /// Why there is no quotient or subscheme.
@@ -103,19 +104,4 @@ pub(crate) fn leasts_of(
         return Err(QuotientFault::NotClosed);
     }
     Ok(leasts)
-}
-
-// Whether all diagonal pairs have one colour.
-fn has_one_fibre(colouring: &Colouring) -> bool
-    ensures answer { IsTrue result ↔ HasOneFibre colouring.now }
-    ensures within { FitsColouring colouring.now }
-{
-    let size = colouring.size();
-    let first = colouring.get(0, 0);
-    for x in 0..size {
-        if colouring.get(x, x) != first {
-            return false;
-        }
-    }
-    true
 }

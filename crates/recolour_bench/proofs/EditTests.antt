@@ -7,7 +7,7 @@ use Rattle.std.proofs.lemmas.List.Sums.{AllPass-from_list_all, list_all-from_All
 use Rattle.pair_colours.specs.Colouring.{PairColouring, IsColouring, colour_at, points}
 use Rattle.pair_colours.specs.Naming.{rank_of}
 use Rattle.pair_colours.specs.Tests.{first_that_holds}
-use Rattle.products.specs.Product.{HasOneFibre}
+use Rattle.pair_colours.specs.Fibres.{HasOneFibre}
 use Rattle.colour_wl.specs.GrowthStrings.{next_number, IsGrowth}
 use Rattle.recolour_bench.specs.declared.edits.EditFault.TheVariants.{NotGrowth, NotHomogeneous}
 use Rattle.recolour_bench.specs.Steps.{grows, one_fibre, string_tests, fibre_tests}

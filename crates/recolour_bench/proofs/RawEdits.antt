@@ -16,7 +16,7 @@ use Rattle.pair_colours.proofs.NamePlaces.{name_of-position}
 use Rattle.pair_colours.proofs.Places.{place_below, row_below, column_below}
 use Rattle.pair_colours.proofs.LawProofs.{closure_is_raw}
 use Rattle.struct_consts.specs.ClassData.{IsConfiguration}
-use Rattle.products.specs.Product.{HasOneFibre}
+use Rattle.pair_colours.specs.Fibres.{HasOneFibre}
 use Rattle.products.proofs.LawProofs.{direct_exists, direct_is_unique, wreath_exists, wreath_is_unique}
 use Rattle.colour_wl.specs.GrowthStrings.{IsGrowth}
 use Rattle.colour_wl.specs.Fusions.{merge}

@@ -5,7 +5,7 @@ use Rattle.pair_colours.specs.Closure.{IsClosureOf}
 use Rattle.trace_text.specs.declared.limits.TheConstants.{MOST_TRACE}
 use Rattle.trace_text.specs.Acceptance as traces
 use Rattle.trace_text.specs.TraceText.{trace_text}
-use Rattle.products.specs.Product.{HasOneFibre}
+use Rattle.pair_colours.specs.Fibres.{HasOneFibre}
 use Rattle.colour_wl.specs.GrowthStrings.{IsGrowth}
 use Rattle.recolour_bench.specs.declared.edits.EditFault.{EditFault}
 use Rattle.recolour_bench.specs.declared.history.TheConstants.{MOST_POSITION}

@@ -5,7 +5,8 @@ ghost use Rattle.pair_colours.specs.declared.coloured_pairs.TheConstants.{MOST_P
 ghost use Rattle.pair_colours.specs.Colouring.{FitsColouring, colour_at};
 ghost use Rattle.pair_colours.specs.Closure.{Coherent, IsClosureOf};
 ghost use Rattle.pair_colours.specs.Tests.{first_that_holds};
-ghost use Rattle.products.specs.Product.{HasOneFibre, DirectProduct, WreathProduct};
+ghost use Rattle.pair_colours.specs.Fibres.{HasOneFibre};
+ghost use Rattle.products.specs.Product.{DirectProduct, WreathProduct};
 ghost use Rattle.struct_consts.specs.ClassData.{HasColoursBelow};
 ghost use Rattle.colour_wl.specs.Fusions.{merge};
 ghost use Rattle.recolour_bench.specs.Edits.{edit_of, factor_of, makes_closure};

@@ -8,8 +8,7 @@ ghost use Rattle.recolour_bench.specs.Steps.{pair_tests, colour_tests, string_te
 use crate::edits::{Edit, EditFault};
 use crate::history::MOST_POSITION;
 use colour_wl::is_growth;
-use pair_colours::{Colouring, MOST_COLOUR, MOST_POINTS, NoMemory};
-use products::has_one_fibre;
+use pair_colours::{Colouring, MOST_COLOUR, MOST_POINTS, NoMemory, has_one_fibre};
 use std::alloc::Global;
 
 // Why the pair (x, y) cannot get the colour.

@@ -5,6 +5,7 @@ use Rattle.std.proofs.lemmas.List.Concat.{get_or-flat_map}
 use Rattle.std.proofs.lemmas.List.Elements.{All-nil, All-append, All-map, All-weaker}
 use Rattle.std.proofs.lemmas.List.FromFn.{length-range_with_len, get_or-range_with_len, length-map-range_with_len, get_or-map-range_with_len}
 use Rattle.pair_colours.specs.Colouring.{IsColouring, IsRawColouring, colour_at, points}
+use Rattle.pair_colours.specs.declared.coloured_pairs.TheConstants.{MOST_COLOUR}
 use Rattle.scheme_demo.specs.Demonstration.{demo_size, demo_weight, demo_colour, demo_row, demo_relation_of}
 
 -- rows of one length, one after the other
@@ -70,5 +71,5 @@ demo_relation_is_raw number = record {
     limit = omega (arith, size_is number);
     numbers = All-weaker (λ colour. colour < 4) (λ colour. colour < 2 ^ 32) (λ colour h. omega (arith, h)) _ (colours_below number);
   };
-  raw = All-weaker (λ colour. colour < 4) (λ colour. colour ≤ 65535) (λ colour h. omega (arith, h)) _ (colours_below number);
+  raw = All-weaker (λ colour. colour < 4) (λ colour. colour ≤ MOST_COLOUR) (λ colour h. omega (arith, h)) _ (colours_below number);
 }

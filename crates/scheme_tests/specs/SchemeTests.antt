@@ -2,12 +2,13 @@
 use Rattle.std.specs.Prelude.{◌≡◌, ◌==◌, ◌↔◌, ◌⊎◌, ℕ, ◌<◌, ◌≤◌, Bool, IsTrue, count_by}
 use Rattle.pair_colours.specs.Colouring.{PairColouring, IsColour, colour_at, points}
 use Rattle.pair_colours.specs.Naming.{rank_of}
+use Rattle.pair_colours.specs.Fibres.{HasOneFibre}
 use Rattle.pair_colours.specs.IntersectionNumber.{intersection_number}
 use Rattle.pair_colours.specs.ClosedSet.{IsClosedSet}
 
 -- all diagonal pairs have one colour
-pub record Homogeneous (K : PairColouring) : Type 0 where
-  pub one_fibre : (x y : ℕ) → x < K.size → y < K.size → colour_at K x x ≡ colour_at K y y
+abbrev pub Homogeneous : PairColouring → Type 0
+Homogeneous K = HasOneFibre K
 
 -- a pair and the turned pair have one colour
 pub record Symmetric (K : PairColouring) : Type 0 where

@@ -7,7 +7,7 @@ ghost use Rattle.struct_consts.specs.ClassData.{IsConfiguration};
 ghost use Rattle.scheme_tests.specs.SchemeTests.{Homogeneous, Symmetric, Commutative, CommutesAt, Thin, Primitive};
 
 use crate::spans::all_span;
-use pair_colours::NoMemory;
+use pair_colours::{NoMemory, has_one_fibre};
 use std::alloc::Global;
 use struct_consts::Constants;
 
@@ -43,14 +43,7 @@ fn is_homogeneous(k: &Constants) -> bool
     ensures answer { IsTrue result ↔ Homogeneous k.now }
     ensures configuration { IsConfiguration k.now }
 {
-    let points = k.colouring();
-    let first = points.get(0, 0);
-    for x in 0..points.size() {
-        if points.get(x, x) != first {
-            return false;
-        }
-    }
-    true
+    has_one_fibre(k.colouring())
 }
 
 #[tactic(auto, using(crate::proofs::TestLemmas::symmetric_steps))]

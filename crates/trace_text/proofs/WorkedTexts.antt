@@ -42,7 +42,7 @@ empty = refl
 two_spaces : trace_fault (codes "trace 1\npoints 1\nstage\n0 \n") ≡ Some (4, Row)
 two_spaces = refl
 
-great_colour : trace_fault (codes "trace 1\npoints 1\nstage\n65536\n") ≡ Some (4, Row)
+great_colour : trace_fault (codes "trace 1\npoints 1\nstage\n1048576\n") ≡ Some (4, Row)
 great_colour = refl
 
 one_more : trace_fault (codes "trace 1\npoints 1\nstage\n0\nclosure\n0\nend\n\n") ≡ Some (8, Extra)

@@ -70,7 +70,7 @@ pub fn verdicts()
     ensures unique { FirstBadLineIsUnique }
 {}
 
-/// A trace has at most 67,108,864 bytes, and a step names numbers of at most 65,535.
+/// A trace has at most 268,435,456 bytes, and a step names numbers of at most 65,535.
 pub fn limits()
     ensures { AreLimits }
 {}

@@ -1,5 +1,5 @@
 -- The sets below n are those of the masks below 2 to the power n.
-use Rattle.std.proofs.Common.{◌≡◌, ◌==◌, ℕ, zero, suc, ◌+◌, ◌-◌, ◌*◌, ◌/◌, ◌%◌, ◌^◌, ◌<◌, ◌≤◌, Bool, true, false, cond, List, [], ◌∷◌, ◌++◌, length, map, filter, get_or, inl, inr, ⊎_elim, refl, sym, ap, subst, ◌∙◌, arith, append-nil, append_assoc, pow-suc}
+use Rattle.std.proofs.Common.{◌≡◌, ◌==◌, ℕ, zero, suc, ◌+◌, ◌-◌, ◌*◌, ◌/◌, ◌%◌, ◌^◌, ◌<◌, ◌≤◌, Bool, true, false, cond, List, [], ◌∷◌, ◌++◌, length, map, filter, get_or, inl, inr, ⊎_elim, refl, sym, ap, subst, ◌∙◌, arith, append-nil, pow-suc}
 use Rattle.std.proofs.lemmas.Bool.{cases_lt}
 use Rattle.std.proofs.lemmas.Bool.Decides.{same_from_decides}
 use Rattle.std.proofs.lemmas.List.{map-append}
@@ -13,7 +13,7 @@ use Rattle.pair_colours.specs.Subsets.{subsets}
 use Rattle.pair_colours.proofs.Counts.{points_more}
 use Rattle.pair_colours.proofs.ListLemmas.{map-map, map_agree, Each-points, Each-weaker}
 use Rattle.pair_colours.proofs.SortedLists.{In, In-points, In-points_from}
-use Rattle.pair_colours.proofs.SubsetLemmas.{In-filter, In-filter_from, Decides-is_in}
+use Rattle.pair_colours.proofs.SubsetLemmas.{In-filter, In-filter_from, Decides-is_in, points_add}
 use Rattle.visitors.specs.Entries.{IsEntry}
 use Rattle.visitors.specs.Masks.{is_member, members_of, HasBits}
 
@@ -79,18 +79,6 @@ members_top n m l =
     ap (λ k. members_of k (2 ^ n + m)) e
     ∙ filter_yes (is_member (2 ^ n + m)) n (top_bit m n l)
     ∙ ap (λ s. s ++ n ∷ []) (filter_agree (is_member (2 ^ n + m)) (is_member m) n (λ c k. low_bits m n c k))
-
--- points in two parts
-points_add : (m k : ℕ) → points (m + k) ≡ points m ++ map (λ i. m + i) (points k)
-points_add m zero = let e : m + 0 ≡ m = omega arith in ap points e ∙ sym (append-nil (points m))
-points_add m (suc k) =
-    let e : m + suc k ≡ m + k + 1 = omega arith in
-    let f : suc k ≡ k + 1 = omega arith in
-    ap points e
-    ∙ points_more (m + k)
-    ∙ ap (λ l. l ++ (m + k) ∷ []) (points_add m k)
-    ∙ append_assoc (points m) (map (λ i. m + i) (points k)) ((m + k) ∷ [])
-    ∙ ap (λ l. points m ++ l) (sym (map-append (λ i. m + i) (points k) (k ∷ [])) ∙ ap (map (λ i. m + i)) (sym (points_more k)) ∙ ap (λ n. map (λ i. m + i) (points n)) (sym f))
 
 -- the sets of the masks are all sets, in the order of their bit numbers
 pub subsets_masks : (n : ℕ) → map (members_of n) (points (2 ^ n)) ≡ subsets n

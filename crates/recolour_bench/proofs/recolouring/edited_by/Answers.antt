@@ -1,7 +1,7 @@
 use Rattle.std.proofs.Common.{◌≡◌, ◌++◌, None, ap, subst}
 use Rattle.pair_colours.specs.Tests.{first_that_holds}
 use Rattle.struct_consts.specs.ClassData.{IsConfiguration}
-use Rattle.products.specs.Product.{HasOneFibre}
+use Rattle.pair_colours.specs.Fibres.{HasOneFibre}
 use Rattle.recolour_bench.specs.Edits.{edit_of}
 use Rattle.recolour_bench.specs.Steps.{string_tests, product_tests, fibre_tests, edit_tests}
 use Rattle.recolour_bench.proofs.RawEdits.{first_that_holds-append, string_grows, factors_have_one}

@@ -16,3 +16,9 @@ entry_at entries place = slice_index_or entries place []
 pub record Met : Type 0 where
   pub met : List (List ℕ)
   pub room : ℕ
+
+-- what a visitor that refuses is: also after how many entries it refuses one
+pub record MetUntil : Type 0 where
+  pub met : List (List ℕ)
+  pub room : ℕ
+  pub after : ℕ

@@ -9,3 +9,5 @@ mod ShownTraces
 mod Halted
 mod RunOutputs
 mod CheckOutputs
+mod DemoClaims
+mod DemoOutputs

@@ -47,7 +47,7 @@ one_configuration h k K L i alike a b =
     named_closure_is_unique (present h) L K (present_is_raw h i).fits.colouring (subst (IsClosureOf L) (sym (present_is_unique h k i alike)) b) a
 
 -- what is said of it is said of one colouring
-one_text : (h k : History) (P : PairColouring → List ℕ → Type 0) (t u : List ℕ) → IsHistory h → AreAlike h k → ((K : PairColouring) → P K t → P K u → t ≡ u)
+pub one_text : (h k : History) (P : PairColouring → List ℕ → Type 0) (t u : List ℕ) → IsHistory h → AreAlike h k → ((K : PairColouring) → P K t → P K u → t ≡ u)
     → OfConfiguration h (λ K. P K t) → OfConfiguration k (λ K. P K u) → t ≡ u
 one_text h k P t u i alike one a b =
     let same = one_configuration h k a.configuration b.configuration i alike a.closure b.closure in

@@ -1,5 +1,5 @@
 -- Runs of answers.
-use Rattle.std.proofs.Common.{◌≡◌, ◌≤◌, ◌<◌, ◌⊎◌, ℕ, ◌+◌, true, List, [], ◌∷◌, ◌++◌, length, get_or, take, drop, Option, Some, None, ⊎_elim, refl, sym, ap, subst, ◌∙◌, arith, append_assoc, inl, inr}
+use Rattle.std.proofs.Common.{◌≡◌, ◌≤◌, ◌<◌, ◌⊎◌, ℕ, ◌+◌, true, List, [], ◌∷◌, ◌++◌, length, get_or, take, drop, Option, Some, None, ⊎_elim, refl, sym, ap, subst, ◌∙◌, arith, append_assoc, length-append, inl, inr}
 use Rattle.std.proofs.lemmas.List.{take_more, take-append-le, append-nil}
 use Rattle.std.proofs.Math.Seq.{take-append-add}
 use Rattle.std.proofs.lemmas.Option.{slice_get-get_or}
@@ -57,7 +57,7 @@ use Rattle.cohere_core.proofs.ProductLists.{around, product_at, product_first, p
 -- ---- one answer
 
 -- every history has a configuration
-has_configuration : (h : History) → IsHistory h → (P : PairColouring → List ℕ → Type 0)
+pub has_configuration : (h : History) → IsHistory h → (P : PairColouring → List ℕ → Type 0)
     → ((K : PairColouring) → IsClosureOf K (present h) → FitsColouring K → (t : List ℕ) × P K t)
     → (t : List ℕ) × OfConfiguration h (λ K. P K t)
 has_configuration h i P text =
@@ -205,7 +205,7 @@ at_fault P (Err other) fault e p = subst P (sym e) p
 
 -- ---- runs
 
-runs_keep : (lines : List Line) (products : List PairColouring) (h end : History) (t : List ℕ) → IsHistory h → Runs h products lines end t → IsHistory end
+pub runs_keep : (lines : List Line) (products : List PairColouring) (h end : History) (t : List ℕ) → IsHistory h → Runs h products lines end t → IsHistory end
 runs_keep [] products h end t i run = subst IsHistory (sym run.0) i
 runs_keep (line ∷ lines) products h end t i run =
     runs_keep lines (left_by products line.act) run.0 end run.2 (answer_keeps h products line.act run.0 run.1 i run.3) run.4
@@ -309,11 +309,19 @@ pub nothing_of_output : (C : PairColouring) (products : List PairColouring) (lin
     → AddsScriptFront C products lines a a
 nothing_of_output C products lines a raw are = let t = output_exists C products lines raw are in (t.0, 0, t.1, Appends-nil a)
 
--- what was written when a session stopped is a front of a whole output
-pub front_of_output : (fault : SessionFault) (C : PairColouring) (products : List PairColouring) (lines : List Line) (start bench : History) (a b : Option (List ℕ)) → IsRawColouring C
-    → AreProducts products lines → Starts C start → Stopped fault start products lines bench a b → AddsScriptFront C products lines a b
-front_of_output fault C products lines start bench a b raw are starts s =
-    let i = start_is_history C start raw starts in
+-- a front of the answers of the lines was added, along a run from this history
+pub record AddsFrontOfRun (start : History) (products : List PairColouring) (lines : List Line) (old new : Option (List ℕ)) : Type 0 where
+  pub end : History
+  pub answers : List ℕ
+  pub runs : Runs start products lines end answers
+  pub part : ℕ
+  pub within : part ≤ length answers
+  pub added : Appends old new (take part answers)
+
+-- what was written when a session stopped is such a front
+pub front_of_run : (fault : SessionFault) (products : List PairColouring) (lines : List Line) (start bench : History) (a b : Option (List ℕ)) → IsHistory start
+    → AreProducts products lines → Stopped fault start products lines bench a b → AddsFrontOfRun start products lines a b
+front_of_run fault products lines start bench a b i are s =
     let left = left_after products (take s.count lines) in
     let after = answer_keeps s.at left s.line.act s.next s.answer (runs_keep (take s.count lines) products start s.at s.text i s.run) s.answers in
     let rest = run_exists s.next (left_by left s.line.act) (drop (s.count + 1) lines) after (products_left products lines s.count s.line s.is_next are) in
@@ -322,9 +330,19 @@ front_of_output fault C products lines start bench a b raw are starts s =
     (s.next, s.answer, rest.1, s.answers, rest.2, refl) in
     let le : s.part ≤ length s.answer = omega (arith, s.proper) in
     let front : take (length s.text + s.part) (s.text ++ (s.answer ++ rest.1)) ≡ s.text ++ take s.part s.answer =
-    take-append-add s.text (s.answer ++ rest.1) s.part ∙ ap (λ (l : List ℕ). s.text ++ l) (take-append-le s.part s.answer rest.1 le) in (
-      s.text ++ (s.answer ++ rest.1),
-      length s.text + s.part,
-      (start, starts, rest.0, subst (λ (l : List Line). Runs start products l rest.0 (s.text ++ (s.answer ++ rest.1))) (around lines s.count s.line s.is_next) whole),
-      subst (Appends a b) (sym front) s.added,
-    )
+    take-append-add s.text (s.answer ++ rest.1) s.part ∙ ap (λ (l : List ℕ). s.text ++ l) (take-append-le s.part s.answer rest.1 le) in
+    record {
+      end = rest.0;
+      answers = s.text ++ (s.answer ++ rest.1);
+      runs = subst (λ (l : List Line). Runs start products l rest.0 (s.text ++ (s.answer ++ rest.1))) (around lines s.count s.line s.is_next) whole;
+      part = length s.text + s.part;
+      within = omega (arith, le, length-append s.text (s.answer ++ rest.1), length-append s.answer rest.1);
+      added = subst (Appends a b) (sym front) s.added;
+    }
+
+-- and so of a whole output
+pub front_of_output : (fault : SessionFault) (C : PairColouring) (products : List PairColouring) (lines : List Line) (start bench : History) (a b : Option (List ℕ)) → IsRawColouring C
+    → AreProducts products lines → Starts C start → Stopped fault start products lines bench a b → AddsScriptFront C products lines a b
+front_of_output fault C products lines start bench a b raw are starts s =
+    let front = front_of_run fault products lines start bench a b (start_is_history C start raw starts) are s in
+    (front.answers, front.part, (start, starts, front.end, front.runs), front.added)

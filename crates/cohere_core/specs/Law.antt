@@ -1,4 +1,4 @@
--- What holds of the answers of every script.
+-- What holds of the answers of every script, and of every demonstration.
 use Rattle.std.specs.Prelude.{◌≡◌, ◌≢◌, ◌⊎◌, ◌≤◌, ℕ, List, All, length, Some}
 use Rattle.std.specs.FinMap.{get}
 use Rattle.scheme_io.specs.Files.{Files}
@@ -15,6 +15,7 @@ use Rattle.cohere_inputs.specs.Task.{Check}
 use Rattle.cohere_core.specs.declared.status.Status.{Status}
 use Rattle.cohere_core.specs.declared.status.Status.TheVariants.{Done, NoMemory}
 use Rattle.cohere_core.specs.Answer.{Runs, Tells}
+use Rattle.cohere_core.specs.DemoForm.{DemoOutput}
 use Rattle.cohere_core.specs.Output.{ScriptOutput}
 use Rattle.cohere_core.specs.Products.{AreProducts}
 use Rattle.cohere_core.specs.Run.{IsStatusWithoutFaults}
@@ -74,3 +75,11 @@ abbrev pub TraceIsChecked : Type 0
 TraceIsChecked =
     (h : History) (text : List ℕ) (files : Files) (name : List ℕ) (status : Status) → IsHistory h → Tells h Trace text → get files name ≡ Some text
     → IsStatusWithoutFaults (Check name) status (Some files) → (status ≡ Done) ⊎ (status ≡ NoMemory)
+
+-- the demonstration of each number has an output
+abbrev pub DemoExists : Type 0
+DemoExists = (number : ℕ) → (t : List ℕ) × DemoOutput number t
+
+-- and only one
+abbrev pub DemoIsUnique : Type 0
+DemoIsUnique = (number : ℕ) (t u : List ℕ) → DemoOutput number t → DemoOutput number u → t ≡ u

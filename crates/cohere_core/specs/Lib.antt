@@ -8,6 +8,7 @@ pub mod Move
 pub mod Output
 pub mod RunForm
 pub mod CheckForm
+pub mod DemoForm
 pub mod Run
 pub mod Agreement
 pub mod Law

@@ -4,7 +4,7 @@ use Rattle.std.specs.Prelude.{◌≡◌, ◌≢◌, ◌⊎◌, ℕ, List, Option
 use Rattle.scheme_io.specs.Files.{Files, IsMissing}
 use Rattle.cohere_inputs.specs.declared.faults.FileFault.{FileFault}
 use Rattle.cohere_inputs.specs.declared.faults.FileFault.TheVariants.{Missing}
-use Rattle.cohere_inputs.specs.Task.{Task, Run, Check}
+use Rattle.cohere_inputs.specs.Task.{Task, Run, Check, Demo}
 use Rattle.cohere_inputs.specs.Needs.{Need}
 use Rattle.cohere_inputs.specs.Texts.{CanBe}
 use Rattle.cohere_inputs.specs.Bad.{IsFault, IsFirstBad, NoneIsBad}
@@ -14,6 +14,7 @@ use Rattle.cohere_core.specs.declared.status.Status.{Status}
 use Rattle.cohere_core.specs.declared.status.Status.TheVariants.{Done, CheckedNo, Usage, BadInput, StoreFailed, SinkFailed, NoMemory}
 use Rattle.cohere_core.specs.RunForm.{RunOutputAfter, RunMayAnswer}
 use Rattle.cohere_core.specs.CheckForm.{CheckOutputAfter, CheckMayAnswer, IsCheckStatus}
+use Rattle.cohere_core.specs.DemoForm.{DemoOutputAfter, DemoMayAnswer, IsDemoStatus}
 
 -- ---- the status and the output, by the form of the words
 
@@ -21,17 +22,20 @@ use Rattle.cohere_core.specs.CheckForm.{CheckOutputAfter, CheckMayAnswer, IsChec
 abbrev pub MayAnswer : Task → Status → Type 0
 MayAnswer (Run run) status = RunMayAnswer status
 MayAnswer (Check trace) status = CheckMayAnswer status
+MayAnswer (Demo number) status = DemoMayAnswer status
 
 -- what was added to the output after this status
 abbrev pub OutputAfter : Task → Status → Option Files → Option (List ℕ) → Option (List ℕ) → Type 0
 OutputAfter (Run run) status files old new = IfSome files (λ files. RunOutputAfter run status files old new)
 OutputAfter (Check trace) status files old new = IfSome files (λ files. CheckOutputAfter trace status files old new)
+OutputAfter (Demo number) status files old new = DemoOutputAfter number status old new
 
 -- the fact, where no file is loaded for what the words ask for
 abbrev pub IfNothingIsLoaded : Option Task → Type 0 → Type 0
 IfNothingIsLoaded None fact = fact
 IfNothingIsLoaded (Some (Run run)) fact = ⊤
 IfNothingIsLoaded (Some (Check trace)) fact = ⊤
+IfNothingIsLoaded (Some (Demo number)) fact = fact
 
 -- before this status the output is not touched
 abbrev pub IsBeforeOutput : Status → Type 0
@@ -95,6 +99,7 @@ pub record IsDecided (files : Files) (task : Task) (status : Status) (good_statu
 abbrev pub IsStatusWithoutFaults : Task → Status → Option Files → Type 0
 IsStatusWithoutFaults (Run run) status files = IfSome files (λ files. IsDecided files (Run run) status (status ≡ Done))
 IsStatusWithoutFaults (Check trace) status files = IfSome files (λ files. IsDecided files (Check trace) status (IsCheckStatus files trace status))
+IsStatusWithoutFaults (Demo number) status files = IsDemoStatus status
 
 -- the store tells its files, and the first bad one is not there
 abbrev pub FirstBadIsMissing : Option Files → Task → Type 0

@@ -1,6 +1,6 @@
 //! Laws over the definitions alone. Each is the contract of a function that does nothing.
 
-ghost use Rattle.cohere_core.specs.Law.{OutputExists, RunExists, OutputsAgree, RunsAgree, OutputIsUnique, RunIsUnique, TraceShowsClosure, TraceIsChecked};
+ghost use Rattle.cohere_core.specs.Law.{OutputExists, RunExists, OutputsAgree, RunsAgree, OutputIsUnique, RunIsUnique, TraceShowsClosure, TraceIsChecked, DemoExists, DemoIsUnique};
 
 /// Every script has an output over every relation, and its lines lead on from every history, as
 /// from the one where a session stopped. Its outputs differ in the steps of traces alone: answer by
@@ -22,4 +22,10 @@ pub fn outputs()
 pub fn traces()
     ensures shows { TraceShowsClosure }
     ensures checked { TraceIsChecked }
+{}
+
+/// The demonstration of each number has exactly one output.
+pub fn demonstrations()
+    ensures exist { DemoExists }
+    ensures unique { DemoIsUnique }
 {}

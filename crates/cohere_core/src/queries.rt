@@ -186,8 +186,8 @@ fn listed_mergings(
     }
 }
 
-// The trace of the chain that shows the closure.
-fn traced(alloc: Global, bench: &Bench) -> Result<Vec<u8>, NoMemory>
+/// The trace of the chain that shows the closure.
+pub(crate) fn traced(alloc: Global, bench: &Bench) -> Result<Vec<u8>, NoMemory>
     ensures { IfOk result (λ text. OfConfiguration bench.now (λ K. text.items ≡ trace_text (claim_by (present_chain bench.now) K))) }
 {
     write_trace(alloc, bench.chain(), bench.closure())

@@ -1,6 +1,6 @@
 //! The top call.
 
-ghost use Rattle.std.specs.Prelude.{◌≡◌, ◌≢◌, ◌≤◌, ◌⊎◌, ◌↔◌, None};
+ghost use Rattle.std.specs.Prelude.{◌≡◌, ◌≢◌, ◌≤◌, ◌⊎◌, ◌↔◌, Some, None};
 ghost use Rattle.scheme_io.specs.Count.{Rose};
 ghost use Rattle.cohere_inputs.specs.Asked.{asked};
 ghost use Rattle.cohere_inputs.specs.Said.{AddsLine};
@@ -10,6 +10,7 @@ ghost use Rattle.cohere_core.specs.Run.{MayAnswer, OutputAfter, IfNothingIsLoade
 
 use crate::Status;
 use crate::check_form::answer_check;
+use crate::demo_form::answer_demo;
 use crate::run_form::answer_run;
 use cohere_inputs::{Task, say_usage, task_of};
 use scheme_io::{Sink, Store};
@@ -46,7 +47,7 @@ pub fn run<S: Store, O: Sink, E: Sink>(
     ensures error_line { IfAsked words.now (λ task.
         ErrorLineAfter task result (S.files store.old) (Rose (S.faults store.old) (S.faults store.new)) (AddsLine E.written E.faults err.old err.new)) }
 
-    // Usage comes exactly where the words fit no form. No file is loaded for such words.
+    // Usage comes exactly where the words fit no form. No file is loaded for such words, nor for a demonstration.
     ensures usage { (result ≡ Status.Usage) ↔ (task_of (texts words.now) ≡ None) }
     ensures same_store { IfNothingIsLoaded (task_of (texts words.now)) (store.new ≡ store.old) }
     ensures same_out { IsBeforeOutput result → out.new ≡ out.old }
@@ -98,10 +99,12 @@ fn carry_out<S: Store, O: Sink, E: Sink>(
     ensures sink_failed { result ≡ Status.SinkFailed → Rose (O.faults out.old) (O.faults out.new) }
     ensures complete { ¬ Rose (S.faults store.old) (S.faults store.new) → ¬ Rose (O.faults out.old) (O.faults out.new)
         → IsStatusWithoutFaults (asked task.entry) result (S.files store.old) }
+    ensures same_store { IfNothingIsLoaded (Some (asked task.entry)) (store.new ≡ store.old) }
     ensures same_files { S.files store.new ≡ S.files store.old }
 {
     match task {
         Task::Run(words) => answer_run(alloc, words, store, out, err, visitor),
         Task::Check(trace) => answer_check(alloc, trace, store, out, err),
+        Task::Demo(number) => answer_demo(alloc, number, out, err, visitor),
     }
 }

@@ -9,6 +9,7 @@ use visitors::{Keep, Packed, Visitor};
 
 mod answered;
 mod checks;
+mod demonstrations;
 mod failures;
 mod fusions;
 mod limits;

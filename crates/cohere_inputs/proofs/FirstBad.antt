@@ -23,7 +23,7 @@ use Rattle.trace_text.specs.declared.trace_faults.TraceWord.{TraceWord}
 use Rattle.trace_text.proofs.LawProofs as traces
 use Rattle.cohere_inputs.specs.declared.faults.FileFault.{FileFault}
 use Rattle.cohere_inputs.specs.declared.faults.FileFault.TheVariants.{Missing, TooLong, Relation, Script, Trace}
-use Rattle.cohere_inputs.specs.Task.{Task, Run, Check, RunWords}
+use Rattle.cohere_inputs.specs.Task.{Task, Run, Check, Demo, RunWords}
 use Rattle.cohere_inputs.specs.Kind.{Kind, limit_of}
 use Rattle.cohere_inputs.specs.Kind as kinds
 use Rattle.cohere_inputs.specs.Needs.{Need, named_files, relation_need, script_need, product_needs}
@@ -211,6 +211,7 @@ one_products files run needs other (inr a) (inr b) = a.1 ∙ sym b.1
 one_loading : (files : Files) (task : Task) (needs other : List Need) → AreLoaded files task needs → AreLoaded files task other → needs ≡ other
 one_loading files (Run run) needs other a b = a.2 ∙ ap (λ products. named_files (Run run) ++ products) (one_products files run a.0 b.0 a.1 b.1) ∙ sym b.2
 one_loading files (Check trace) needs other a b = a ∙ sym b
+one_loading files (Demo number) needs other a b = a ∙ sym b
 
 -- a product is read at a line
 names_counted : (names : List (List ℕ)) → AllByRecursion (λ need. IsCounted need.kind) (map (λ name. relation_need name 1) names)
@@ -235,6 +236,7 @@ none_or_first_bad files (Run run) asked =
     let products = has_products files run in
     of_loaded files (Run run) (named_files (Run run) ++ products.0) (products.0, products.1, refl) (asked, (tt, products_counted files run products.0 products.1))
 none_or_first_bad files (Check trace) asked = of_loaded files (Check trace) (named_files (Check trace)) refl (tt, tt)
+none_or_first_bad files (Demo number) asked = of_loaded files (Demo number) (named_files (Demo number)) refl tt
 
 pub none_is_first : NoneIsFirst
 none_is_first files task need fault good bad =

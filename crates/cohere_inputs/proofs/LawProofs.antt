@@ -1,7 +1,8 @@
 -- The proofs of the laws, under the names by which crates above cite them.
 use Rattle.std.proofs.Common.{refl}
-use Rattle.cohere_inputs.specs.Law.{NoneOrFirstBad, NoneIsFirst, FirstBadIsUnique, InputsExist, InputsAreGood}
+use Rattle.cohere_inputs.specs.Law.{NoneOrFirstBad, NoneIsFirst, FirstBadIsUnique, InputsExist, InputsAreGood, TraceHasFewLines}
 use Rattle.cohere_inputs.specs.Limits.{AreLimits}
+use Rattle.cohere_inputs.proofs.ClaimLength as lengths
 use Rattle.cohere_inputs.proofs.FirstBad as files
 
 pub none_or_first_bad : NoneOrFirstBad
@@ -18,6 +19,9 @@ inputs_exist = files.inputs_exist
 
 pub inputs_are_good : InputsAreGood
 inputs_are_good = files.inputs_are_good
+
+pub trace_has_few_lines : TraceHasFewLines
+trace_has_few_lines = lengths.few_lines
 
 pub limits : AreLimits
 limits = record { line = refl }

@@ -11,7 +11,7 @@ use Rattle.trace_text.specs.declared.stage_list.Claim.{Claim}
 use Rattle.trace_text.specs.ClaimTexts.{IsTraceText}
 use Rattle.cohere_inputs.specs.declared.faults.FileFault.{FileFault}
 use Rattle.cohere_inputs.specs.declared.faults.FileFault.TheVariants.{Missing, TooLong}
-use Rattle.cohere_inputs.specs.Task.{Task, Run, Check, RunWords}
+use Rattle.cohere_inputs.specs.Task.{Task, Run, Check, Demo, RunWords}
 use Rattle.cohere_inputs.specs.Kind.{limit_of}
 use Rattle.cohere_inputs.specs.Needs.{Need, named_files, product_needs, relation_need, script_need, trace_need}
 use Rattle.cohere_inputs.specs.Products.{products_of}
@@ -70,6 +70,7 @@ AreProductNeeds files run needs =
 abbrev pub AreLoaded : Files → Task → List Need → Type 0
 AreLoaded files (Run run) needs = (products : List Need) × AreProductNeeds files run products × (needs ≡ named_files (Run run) ++ products)
 AreLoaded files (Check trace) needs = needs ≡ named_files (Check trace)
+AreLoaded files (Demo number) needs = needs ≡ named_files (Demo number)
 
 -- no file of the list before this one is bad
 abbrev pub IsReachedIn : Files → List Need → Need → Type 0

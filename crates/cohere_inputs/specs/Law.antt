@@ -1,10 +1,14 @@
--- What holds of the files of every task: none is bad, or there is exactly one first bad one, with one fault.
-use Rattle.std.specs.Prelude.{◌≡◌, ◌⊎◌, List}
+-- What holds of the files of every task: none is bad, or there is exactly one first bad one, with one fault. And how long a claim may be.
+use Rattle.std.specs.Prelude.{◌≡◌, ◌⊎◌, ◌^◌, ◌<◌, ◌≤◌, ℕ, List, length}
 use Rattle.scheme_io.specs.Files.{Files}
 use Rattle.cohere_inputs.specs.declared.faults.FileFault.{FileFault}
 use Rattle.cohere_inputs.specs.Task.{Task, Run, RunWords, IsAsked}
 use Rattle.pair_colours.specs.Colouring.{PairColouring}
 use Rattle.script_text.specs.declared.acts.Line.{Line}
+use Rattle.trace_text.specs.declared.limits.TheConstants.{MOST_TRACE}
+use Rattle.trace_text.specs.declared.stage_list.Claim.{Claim}
+use Rattle.trace_text.specs.BadLines.{line_count}
+use Rattle.trace_text.specs.ClaimTexts.{IsTraceText}
 use Rattle.cohere_inputs.specs.RunForm.{AreRunInputs}
 use Rattle.cohere_inputs.specs.Needs.{Need}
 use Rattle.cohere_inputs.specs.Bad.{IsFirstBad, NoneIsBad}
@@ -31,3 +35,7 @@ InputsExist = (files : Files) (run : RunWords) → NoneIsBad files (Run run)
 abbrev pub InputsAreGood : Type 0
 InputsAreGood = (files : Files) (run : RunWords) (C : PairColouring) (lines : List Line) (products : List PairColouring)
     → AreRunInputs files run C lines products → NoneIsBad files (Run run)
+
+-- a text within the limit of a trace has few lines
+abbrev pub TraceHasFewLines : Type 0
+TraceHasFewLines = (text : List ℕ) (claim : Claim) → length text ≤ MOST_TRACE → IsTraceText text claim → line_count claim < 2 ^ 32

@@ -1,6 +1,7 @@
 pub mod Task
 pub mod RunForm
 pub mod CheckForm
+pub mod DemoForm
 pub mod Words
 pub mod Asked
 pub mod Products

@@ -1,7 +1,7 @@
 -- The files that are loaded for a task.
 use Rattle.std.specs.Prelude.{ℕ, List, [], ◌∷◌, map}
 use Rattle.script_text.specs.declared.acts.Line.{Line}
-use Rattle.cohere_inputs.specs.Task.{Task, Run, Check}
+use Rattle.cohere_inputs.specs.Task.{Task, Run, Check, Demo}
 use Rattle.cohere_inputs.specs.Kind.{Kind}
 use Rattle.cohere_inputs.specs.Kind as kinds
 use Rattle.cohere_inputs.specs.Products.{products_of}
@@ -25,6 +25,7 @@ trace_need name = record { name = name; kind = kinds.Trace }
 abbrev pub named_files : Task → List Need
 named_files (Run run) = relation_need run.relation run.line ∷ script_need run.script ∷ []
 named_files (Check trace) = trace_need trace ∷ []
+named_files (Demo number) = []
 
 -- the files by which the lines of a script multiply, in order: each must hold a relation at line 1
 abbrev pub product_needs : List Line → List Need

@@ -13,8 +13,11 @@ pub data Task : Type 0 where
   Run : RunWords → Task
   -- judges the trace in the file of this name
   Check : List ℕ → Task
+  -- answers the lines of the demonstration over the relation of this number
+  Demo : ℕ → Task
 
 -- what is known of a task that was asked for
 abbrev pub IsAsked : Task → Type 0
 IsAsked (Run run) = 1 ≤ run.line
 IsAsked (Check trace) = ⊤
+IsAsked (Demo number) = ⊤

@@ -16,7 +16,7 @@ use Rattle.trace_text.specs.declared.trace_faults.TraceFault.TheVariants as trac
 use Rattle.cohere_inputs.specs.declared.faults.FileFault.TheVariants.{Missing, TooLong, Relation, Script, Trace}
 use Rattle.cohere_inputs.specs.declared.faults.Unread.{Unread}
 use Rattle.cohere_inputs.specs.declared.faults.Unread.TheVariants.{Bad, StoreFailed, NoMemory}
-use Rattle.cohere_inputs.specs.Task.{Task, Run, Check}
+use Rattle.cohere_inputs.specs.Task.{Task, Run, Check, Demo}
 use Rattle.cohere_inputs.specs.Kind.{Kind}
 use Rattle.cohere_inputs.specs.Needs.{Need, named_files, product_needs}
 use Rattle.cohere_inputs.specs.Texts.{CanBe}
@@ -77,6 +77,7 @@ IsProductOfSomeScript need = (lines : List Line) × IsSomeScript lines × Contai
 abbrev pub CanBeLoaded : Task → Need → Type 0
 CanBeLoaded (Run run) need = Contains (named_files (Run run)) need ⊎ IsProductOfSomeScript need
 CanBeLoaded (Check trace) need = Contains (named_files (Check trace)) need
+CanBeLoaded (Demo number) need = Contains (named_files (Demo number)) need
 
 -- loading came to this file: it can be loaded for the task, and where the files are told, it is, and none that is loaded before it is bad
 abbrev pub ComesTo : Option Files → Task → Need → Type 0

@@ -1,6 +1,6 @@
 //! Laws over the definitions alone. Each is the contract of a function that does nothing.
 
-ghost use Rattle.cohere_inputs.specs.Law.{NoneOrFirstBad, NoneIsFirst, FirstBadIsUnique, InputsExist, InputsAreGood};
+ghost use Rattle.cohere_inputs.specs.Law.{NoneOrFirstBad, NoneIsFirst, FirstBadIsUnique, InputsExist, InputsAreGood, TraceHasFewLines};
 ghost use Rattle.cohere_inputs.specs.Limits.{AreLimits};
 
 /// Of the files that are loaded for a task none is bad, or one is the first bad one, and never both;
@@ -16,6 +16,11 @@ pub fn first_bad()
 pub fn inputs()
     ensures exist { InputsExist }
     ensures are_good { InputsAreGood }
+{}
+
+/// A claim that stands in a text within the limit of a trace has fewer than 2^32 lines.
+pub fn short_traces()
+    ensures { TraceHasFewLines }
 {}
 
 /// The numbers of the limits.

@@ -6,6 +6,7 @@ ghost use Rattle.cohere_inputs.specs.Task.{IsAsked};
 ghost use Rattle.cohere_inputs.specs.Words.{texts, task_of};
 
 use crate::check_form::check_words;
+use crate::demo_form::demo_words;
 use crate::run_form::{RunWords, run_words};
 
 /// The greatest line of a relation's file that can be asked for.
@@ -18,6 +19,8 @@ pub enum Task<'a> {
     Run(RunWords<'a>),
     /// Judges the trace in the file of this name.
     Check(&'a str),
+    /// Answers the lines of the demonstration over the relation of this number.
+    Demo(u32),
 }
 
 /// What the words ask for, where they fit a form.
@@ -29,6 +32,7 @@ pub fn task_of(words: &[String]) -> Option<Task<'_>>
     match word.as_str() {
         "run" => run_words(words).map(Task::Run),
         "check" => check_words(words).map(Task::Check),
+        "demo" => Some(Task::Demo(demo_words(words)?)),
         _ => None,
     }
 }

@@ -15,6 +15,7 @@ mod fusions;
 mod limits;
 mod product_lines;
 mod refused;
+mod refusing;
 mod subsets;
 mod traces;
 

@@ -2,11 +2,10 @@
 
 use super::{Outcome, ends_by, words_of};
 use crate::{SessionFault, Status, session};
-use cohere_inputs::{RunInputs, Task, run_inputs, task_of};
+use cohere_inputs::{Task, run_inputs, task_of};
 use recolour_bench::Bench;
 use scheme_io::{MemorySink, MemoryStore};
 use std::alloc::Global;
-use std::process::Abort;
 use std::test::Fail;
 use visitors::{Refusing, Visitor};
 
@@ -61,32 +60,28 @@ fn visitors_that_refuse(rt: HostRuntime) -> Result<(), Fail> {
     Ok(())
 }
 
-// What is read for a run over the cube.
-fn inputs_of(rt: &impl Abort, alloc: Global, script: &[u8]) -> Result<RunInputs, Fail> {
-    let words = words_of(alloc, &["run", "R", "S"])?;
-    let mut err = MemorySink::new(alloc, 5, 1000)?;
-    match task_of(&words) {
-        Some(Task::Run(run)) => Ok(run_inputs(alloc, &mut cube(alloc, script)?, run, &mut err)?),
-        _ => panic!(rt; "these words ask for a run"),
-    }
-}
-
 // The lines before the refusal were carried out, and no other: the bench stands at its second
 // entry, and the third is still there.
 #[test]
 fn a_bench_after_a_refusal(rt: HostRuntime) -> Result<(), Fail> {
     let alloc = rt.alloc();
-    let inputs = inputs_of(&rt, alloc, b"adopt\nadopt\nundo\nmergings 10\nredo\n")?;
+    let words = words_of(alloc, &["run", "R", "S"])?;
+    let Some(Task::Run(run)) = task_of(&words) else {
+        panic!(rt; "these words ask for a run");
+    };
+    let mut store = cube(alloc, b"adopt\nadopt\nundo\nmergings 10\nredo\n")?;
+    let mut err = MemorySink::new(alloc, 5, 1000)?;
+    let inputs = run_inputs(alloc, &mut store, run, &mut err)?;
     let mut bench = Bench::new(alloc, inputs.relation)?;
     let mut out = MemorySink::new(alloc, 1000, 1000)?;
-    let mut visitor = Refusing::new(alloc, 2);
+    let mut visitor: Box<dyn Visitor> = Box::new(alloc, Refusing::new(alloc, 2))?;
     let answer = session(
         alloc,
         &mut bench,
         &inputs.lines,
         &inputs.products,
         &mut out,
-        &mut visitor,
+        &mut *visitor,
     );
     assert_eq!(rt; answer.err(), Some(SessionFault::NoMemory));
     let output = b"ok points 8 rank 4\nok points 8 rank 4\nok points 8 rank 4\n";

@@ -25,6 +25,8 @@ _MOST_PRINTED = 32
 _MOST_SHAPES = 40
 # Rows of a legend in one column, and how many classes it has at most.
 _LEGEND_ROWS, _MOST_IN_LEGEND = 32, 128
+# How far the rows of a legend are apart at least, in inches.
+_LEAST_STEP = 0.17
 # Up to so many points a graph has their numbers on them; up to so many, beside them.
 _MOST_INSIDE, _MOST_BESIDE = 24, 64
 # As many graphs as one page has.
@@ -97,7 +99,8 @@ def draw_matrix(closure: Configuration, by: Optional[Classes] = None, title: Opt
     matplotlib.figure.Figure
     """
     blocks = _sorted_points(closure, by)
-    side = min(max(0.32 * closure.points, 2.4), 8.0)
+    rows = min(closure.rank, _LEGEND_ROWS)
+    side = min(max(0.32 * closure.points, 2.4, 0.2 + _LEAST_STEP * (rows + 1)), 8.0)
     columns = math.ceil(min(closure.rank, _MOST_IN_LEGEND) / _LEGEND_ROWS)
     figure = _figure(side + 0.6 + 2.5 * columns, side + 0.6)
     axes, beside = figure.subplots(1, 2, width_ratios=[side + 0.6, 2.5 * columns])
@@ -121,10 +124,10 @@ def _paint_matrix(axes: Axes, closure: Configuration, blocks: List[List[int]]) -
     else:
         axes.imshow(painted, interpolation="nearest")
     if count <= _MOST_PRINTED:
+        # One size for all, by which the longest number fits.
+        size = 8 - 1.5 * (len(str(closure.rank - 1)) - 1) if count <= 22 else 6
         for y, row in enumerate(sorted_matrix):
             for x, it in enumerate(row):
-                # (long numbers are to fit, too)
-                size = 8 - 1.5 * (len(str(it)) - 1) if count <= 22 else 6
                 axes.text(x, y, it, ha="center", va="center", fontsize=size, color=ink_on(colours[it]))
     axes.set(xlim=(-0.5, count - 0.5), ylim=(count - 0.5, -0.5), aspect="equal")
     _rule_blocks(axes, blocks)

@@ -114,7 +114,7 @@ fn edits_of_the_pentagon(rt: HostRuntime) -> Result<(), Fail> {
 fn a_full_history(rt: HostRuntime) -> Result<(), Fail> {
     let alloc = rt.alloc();
     let mut bench = Bench::new(alloc, Colouring::new(alloc, 2, 7)?)?;
-    let other = Bench::new(alloc, Colouring::new(alloc, 65, 7)?)?;
+    let other = Bench::new(alloc, Colouring::new(alloc, 129, 7)?)?;
     assert_eq!(rt; bench.undo(), Err(EditFault::NothingToUndo));
     assert_eq!(rt; bench.redo(), Err(EditFault::NothingToRedo));
     for _ in 0..256 {
@@ -254,7 +254,7 @@ fn products_that_are_refused(rt: HostRuntime) -> Result<(), Fail> {
     let mut bench = cube(alloc)?;
     let other = cube(alloc)?;
     let mut path = graph(alloc, 3, &[(0, 1), (1, 2)])?;
-    let points = Bench::new(alloc, Colouring::new(alloc, 43, 7)?)?;
+    let points = Bench::new(alloc, Colouring::new(alloc, 86, 7)?)?;
     let direct = Edit::Direct {
         other: other.present(),
     };

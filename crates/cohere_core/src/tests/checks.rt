@@ -207,7 +207,7 @@ fn traces_that_are_not_judged(rt: HostRuntime) -> Result<(), Fail> {
     };
     let words = ["check", "T"];
     ends(&rt, alloc, 1, &words, &mut store, &mut out, front)?;
-    let long = padded(alloc, TRACE, 67_108_865)?;
+    let long = padded(alloc, TRACE, 268_435_457)?;
     let too_long = Outcome {
         status: Status::BadInput,
         output: b"",

@@ -21,12 +21,13 @@ const WORDS: [&[&str]; 9] = [
 ];
 
 // Files that are no relation on their first line.
-const RELATIONS: [(&[u8], &[u8]); 14] = [
+const RELATIONS: [(&[u8], &[u8]); 15] = [
     (b"", b"cohere: R: NoLine at 0\n"),
     (b":An\n", b"cohere: R: BadByte at 0\n"),
     (b"~??D\n", b"cohere: R: SizeForm at 0\n"),
     (b"?\n", b"cohere: R: NoPoints at 0\n"),
-    (b"~?AB\n", b"cohere: R: TooManyPoints at 0\n"),
+    (b"~?C@\n", b"cohere: R: TooManyPoints at 0\n"),
+    (b"~?AB\n", b"cohere: R: WrongLength at 4\n"),
     (b"DQ\n", b"cohere: R: WrongLength at 2\n"),
     (b"DQc?\n", b"cohere: R: WrongLength at 4\n"),
     (b"DQd\n", b"cohere: R: PadBits at 2\n"),

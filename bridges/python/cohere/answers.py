@@ -386,8 +386,8 @@ def _page(lines: _Lines) -> Page:
 
 
 def _trace(lines: _Lines) -> str:
-    lines.match("trace 1")
-    return "".join(f"{it}\n" for it in ["trace 1", *iter(lines.take, "end"), "end"])
+    (head,) = lines.match("(trace [12])")
+    return "".join(f"{it}\n" for it in [head, *iter(lines.take, "end"), "end"])
 
 
 def _graph(lines: _Lines) -> str:

@@ -23,7 +23,7 @@ from .answers import (
 from .errors import Refused
 from .program import answers
 from .relations import matrix_text, relation_text
-from .traces import check
+from .traces import check, trace_line
 
 __all__ = ["Classes", "Configuration", "closure"]
 
@@ -441,15 +441,20 @@ class Configuration:
             raise ValueError(f"{sorted(chosen)} is no closed subset of {self!r}")
         return [it for x, it in enumerate(near) if it[0] == x]
 
-    def trace(self) -> str:
+    def trace(self, version: int = 1) -> str:
         """Make a certificate that this is the closure of the relation that it was made of.
+
+        Parameters
+        ----------
+        version : int
+            1 for steps on one class each, 2 for rounds of refinement, which leave nothing to the program.
 
         Returns
         -------
         str
             A trace, which `cohere.check` judges.
         """
-        return self._ask("trace")
+        return self._ask(trace_line(version))
 
     def check(self) -> Verdict:
         """Make the trace, and let the checker judge it.

@@ -10,6 +10,7 @@ from .configuration import Configuration
 from .errors import BadScript, Refused
 from .program import answers
 from .relations import matrix_text, relation_text
+from .traces import trace_line
 
 __all__ = ["Session"]
 
@@ -192,15 +193,20 @@ class Session:
         """
         return Configuration(matrix_text(self.raw().matrix))
 
-    def trace(self) -> str:
+    def trace(self, version: int = 1) -> str:
         """Make a certificate of the present closure, with a stage for each edit that only refined.
+
+        Parameters
+        ----------
+        version : int
+            1 for steps on one class each, 2 for rounds of refinement, which leave nothing to the program.
 
         Returns
         -------
         str
             A trace, which `cohere.check` judges.
         """
-        return self.ask("trace")
+        return self.ask(trace_line(version))
 
 
 def _named(relation: Any, products: Dict[str, str]) -> str:

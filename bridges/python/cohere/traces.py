@@ -6,10 +6,15 @@ from .answers import Verdict, read_verdict
 from .errors import error_of
 from .program import run
 
-__all__ = ["check"]
+__all__ = ["check", "trace_line"]
 
 # The statuses of a trace that is accepted, and of one that is not.
 _JUDGED = (0, 1)
+
+
+def trace_line(version: int) -> str:
+    """Write the line of a script that asks for a trace of this version."""
+    return "trace" if version == 1 else f"trace {version}"
 
 
 def check(trace: str) -> Verdict:

@@ -59,6 +59,11 @@ ANSWERS = [
         "trace 1\npoints 2\nstage\n7 7\n7 7\nD 0\nclosure\n0 1\n1 0\nend\n",
         "trace 1\npoints 2\nstage\n7 7\n7 7\nD 0\nclosure\n0 1\n1 0\nend\n",
     ),
+    (
+        "trace 2",
+        "trace 2\npoints 2\nstage\n7 7\n7 7\nR\nclosure\n0 1\n1 0\nend\n",
+        "trace 2\npoints 2\nstage\n7 7\n7 7\nR\nclosure\n0 1\n1 0\nend\n",
+    ),
     ("write graph6 1", "graph6 Gr`HOk\n", "Gr`HOk"),
     ("write digraph6 1", "digraph6 &BP_\n", "&BP_"),
 ]

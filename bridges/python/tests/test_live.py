@@ -115,6 +115,9 @@ class Configurations(unittest.TestCase):
             cohere.check(two.trace()[:-4])
         self.assertEqual((caught.exception.line, caught.exception.word), (10, "End"))
         self.assertTrue(cohere.closure(PATH_5).check())
+        rounds = cohere.closure(PATH_5).trace(version=2)
+        self.assertEqual(rounds.splitlines().count("R"), 2)
+        self.assertEqual(cohere.check(rounds), cohere.Verdict(True, points=5, rank=13, steps=2))
 
     def test_bad_relations(self):
         for relation, word, place in [

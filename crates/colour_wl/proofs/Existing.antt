@@ -5,8 +5,8 @@ use Rattle.std.proofs.lemmas.List.{get_or_past}
 use Rattle.pair_colours.specs.Colouring.{PairColouring, colour_at, points}
 use Rattle.pair_colours.specs.Closure.{Coherent}
 use Rattle.pair_colours.specs.Naming.{rank_of}
-use Rattle.pair_colours.specs.Rounds.{Alike}
-use Rattle.pair_colours.proofs.Exists.{alike, Decides-alike}
+use Rattle.pair_colours.specs.Rounds.{Alike, alike}
+use Rattle.pair_colours.proofs.Exists.{Decides-alike}
 use Rattle.pair_colours.proofs.Reaching.{all_below}
 use Rattle.pair_colours.proofs.SortedLists.{In, In-points}
 use Rattle.pair_colours.proofs.ThoseLemmas.{those_exist}

@@ -3,9 +3,9 @@ use Rattle.std.proofs.Common.{◌≡◌, ◌&&◌, ℕ, suc, zero, ◌<◌, Bool
 use Rattle.std.proofs.lemmas.Bool.{and_parts, cases_lt}
 use Rattle.pair_colours.specs.Colouring.{PairColouring, colour_at}
 use Rattle.pair_colours.specs.Closure.{Coherent}
-use Rattle.pair_colours.specs.Rounds.{Alike}
+use Rattle.pair_colours.specs.Rounds.{Alike, alike}
 use Rattle.pair_colours.specs.IntersectionNumber.{pair_of_class}
-use Rattle.pair_colours.proofs.Exists.{alike, Decides-alike}
+use Rattle.pair_colours.proofs.Exists.{Decides-alike}
 
 -- whether each number below n passes
 abbrev pub all_below : ℕ → (ℕ → Bool) → Bool

@@ -1,6 +1,7 @@
 //! Laws over the definitions alone. Each is the contract of a function that does nothing.
 
 ghost use Rattle.pair_colours.specs.Closure.{ClosureExists, ClosureIsUnique, NamedClosureExists, NamedClosureIsUnique, ClosureIsRaw};
+ghost use Rattle.pair_colours.specs.Rounds.{AlikeIsTested};
 ghost use Rattle.pair_colours.specs.ClosedSet.{ClosedSetsExist, ClosedSetsAreUnique};
 ghost use Rattle.pair_colours.specs.ColourSets.{ColourSetOrNot, EdgeSetOrNot};
 ghost use Rattle.pair_colours.specs.Limits.{AreLimits};
@@ -19,6 +20,12 @@ pub fn l1()
 /// than the raw colours.
 pub fn closure_is_raw()
     ensures { ClosureIsRaw }
+{}
+
+/// The test of two pairs passes exactly where they are alike, so that a round of refinement keeps them
+/// together.
+pub fn alike_pairs()
+    ensures { AlikeIsTested }
 {}
 
 /// Every list of numbers is a set of colours or not, and an edge set or not.

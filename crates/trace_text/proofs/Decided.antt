@@ -6,8 +6,8 @@ use Rattle.std.proofs.lemmas.Slice.Eq.{bytes_eq-Decides}
 use Rattle.std.specs.Str.{bytes_eq}
 use Rattle.pair_colours.specs.Colouring.{PairColouring, Refines, colour_at}
 use Rattle.pair_colours.specs.Closure.{Coherent}
-use Rattle.pair_colours.specs.Rounds.{Alike}
-use Rattle.pair_colours.proofs.Exists.{alike, Decides-alike}
+use Rattle.pair_colours.specs.Rounds.{Alike, alike}
+use Rattle.pair_colours.proofs.Exists.{Decides-alike}
 use Rattle.pair_colours.proofs.Reaching.{all_below}
 use Rattle.trace_text.proofs.Reaching.{AlikeWhereSame, coherent_from}
 

@@ -5,9 +5,9 @@ use Rattle.std.proofs.lemmas.List.Elements.{All-nil, All-cons}
 use Rattle.pair_colours.specs.Colouring.{PairColouring, colour_at, triangles}
 use Rattle.pair_colours.specs.Closure.{Coherent}
 use Rattle.pair_colours.specs.Naming.{rank_of}
-use Rattle.pair_colours.specs.Rounds.{Alike}
+use Rattle.pair_colours.specs.Rounds.{Alike, same_over, alike}
 use Rattle.pair_colours.proofs.Counts.{unit_of}
-use Rattle.pair_colours.proofs.Exists.{same_over, alike, Decides-alike}
+use Rattle.pair_colours.proofs.Exists.{Decides-alike}
 use Rattle.pair_colours.proofs.Few.{colours_met-le}
 use Rattle.pair_colours.proofs.Names.{named_of-same}
 use Rattle.pair_colours.proofs.Places.{Refines-refl}

@@ -1,4 +1,4 @@
--- The claim of the present entry of a history, written as a trace, read again and judged.
+-- The claim of version 1 of the present entry of a history, written as a trace, read again and judged.
 use Rattle.std.proofs.Common.{◌≡◌, ◌^◌, ◌<◌, ◌≤◌, ℕ, List, length, Some, arith, sym, ap, subst, ◌∙◌}
 use Rattle.std.proofs.lemmas.Option.{none-some}
 use Rattle.trace_text.specs.declared.check_words.CheckWord.{CheckWord}
@@ -15,23 +15,26 @@ use Rattle.recolour_bench.specs.EntryChains.{claim_by}
 use Rattle.recolour_bench.specs.History.{History, IsHistory, no_entry, present_chain}
 use Rattle.recolour_bench.proofs.LawProofs.{chains_are_short}
 use Rattle.cohere_inputs.proofs.LawProofs.{trace_has_few_lines}
-use Rattle.script_text.specs.declared.acts.Act.TheVariants.{Trace}
-use Rattle.cohere_core.specs.Answer.{Tells}
+use Rattle.cohere_core.specs.Answer.{OfConfiguration}
 use Rattle.cohere_core.specs.DemoForm.{IsClaimOf}
 use Rattle.cohere_core.proofs.ShownTraces.{present_accepted, present_reads, present_short}
 
 -- ---- the text
 
+-- the text of the claim
+abbrev pub IsTextOfClaim : History → List ℕ → Type 0
+IsTextOfClaim h text = OfConfiguration h (λ K. text ≡ trace_text (claim_by (present_chain h) K))
+
 -- the text is short, in whichever place it stands
-pub trace_is_short : (h : History) (text view : List ℕ) → IsHistory h → Tells h Trace text → view ≡ text → length view ≤ MOST_TRACE
+pub trace_is_short : (h : History) (text view : List ℕ) → IsHistory h → IsTextOfClaim h text → view ≡ text → length view ≤ MOST_TRACE
 trace_is_short h text view i tells same = subst (λ (t : List ℕ). length t ≤ MOST_TRACE) (sym (same ∙ tells.holds)) (present_short h tells.configuration i tells.closure)
 
-trace_reads : (h : History) (text view : List ℕ) (i : IsHistory h) (tells : Tells h Trace text) → view ≡ text → IsTraceText view (claim_by (present_chain h) tells.configuration)
+trace_reads : (h : History) (text view : List ℕ) (i : IsHistory h) (tells : IsTextOfClaim h text) → view ≡ text → IsTraceText view (claim_by (present_chain h) tells.configuration)
 trace_reads h text view i tells same =
     subst (λ (t : List ℕ). IsTraceText t (claim_by (present_chain h) tells.configuration)) (sym (same ∙ tells.holds)) (present_reads h tells.configuration i tells.closure)
 
 -- what is read of it is the claim
-pub trace_is_of_claim : (h : History) (text view : List ℕ) (claim : Claim) → IsHistory h → Tells h Trace text → view ≡ text → IsTraceText view claim → IsClaimOf h claim
+pub trace_is_of_claim : (h : History) (text view : List ℕ) (claim : Claim) → IsHistory h → IsTextOfClaim h text → view ≡ text → IsTraceText view claim → IsClaimOf h claim
 trace_is_of_claim h text view claim i tells same reads = record {
   configuration = tells.configuration;
   closure = tells.closure;
@@ -39,7 +42,7 @@ trace_is_of_claim h text view claim i tells same reads = record {
 }
 
 -- and no fault is
-pub trace_has_no_fault : (h : History) (text view : List ℕ) (line : ℕ) (what : TraceWord) → IsHistory h → Tells h Trace text → view ≡ text → trace_fault view ≡ Some (line, what) → ⊥
+pub trace_has_no_fault : (h : History) (text view : List ℕ) (line : ℕ) (what : TraceWord) → IsHistory h → IsTextOfClaim h text → view ≡ text → trace_fault view ≡ Some (line, what) → ⊥
 trace_has_no_fault h text view line what i tells same bad =
     none-some (line, what) (sym (reading_has_no_fault view (claim_by (present_chain h) tells.configuration) (trace_reads h text view i tells same)) ∙ bad)
 

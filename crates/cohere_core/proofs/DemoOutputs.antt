@@ -26,7 +26,7 @@ use Rattle.cohere_core.proofs.Runs.{front_of_run, has_configuration, run_exists,
 
 -- ---- the lines
 
--- they keep the limits, take no product, and ask for no trace
+-- they keep the limits, take no product, and ask for no trace of version 1
 pub demo_lines_keep : KeepLimits demo_lines_of
 demo_lines_keep = All-from_recursion (λ (line : Line). KeepsLimit line.act) demo_lines_of (tt, (tt, (tt, (tt, (tt, (tt, (tt, tt)))))))
 
@@ -35,7 +35,7 @@ demo_products = record { one_each = refl; raw = All-nil IsRawColouring }
 
 demo_has_no_trace : HasNoTrace demo_lines_of
 demo_has_no_trace =
-    All-from_recursion (λ (line : Line). line.act ≢ Trace) demo_lines_of
+    All-from_recursion (λ (line : Line). line.act ≢ Trace 1) demo_lines_of
     (λ e. cc, (λ e. cc, (λ e. cc, (λ e. cc, (λ e. cc, (λ e. cc, (λ e. cc, tt)))))))
 
 -- ---- one output

@@ -7,18 +7,19 @@ use Rattle.pair_colours.specs.Closure.{IsClosureOf}
 use Rattle.pair_colours.specs.Naming.{rank_of}
 use Rattle.pair_colours.proofs.LawProofs.{named_closure_is_unique, closure_is_raw}
 use Rattle.struct_consts.specs.ClassData.{IsConfiguration}
-use Rattle.recolour_bench.specs.EntryChains.{claim_by}
+use Rattle.recolour_bench.specs.EntryChains.{claim_by, round_claim_by}
 use Rattle.recolour_bench.specs.History.{History, IsHistory, AreAlike, present, present_chain}
 use Rattle.recolour_bench.specs.declared.edits.EditFault.{EditFault}
 use Rattle.recolour_bench.specs.Steps as steps
 use Rattle.recolour_bench.specs.Words.{edit_word}
-use Rattle.recolour_bench.proofs.LawProofs.{start_is_history, start_is_unique, step_is_unique, not_both, refusal_is_unique, refusal_is_alike, present_is_raw, present_is_unique, chain_is_unique}
+use Rattle.recolour_bench.proofs.LawProofs.{start_is_history, start_is_unique, step_is_unique, not_both, refusal_is_unique, refusal_is_alike, present_is_raw, present_is_unique, chain_is_unique, round_chain_is_unique}
 use Rattle.report_text.specs.EditLines.{ok_text, refused_text_of}
 use Rattle.report_text.specs.Matrices.{show_text, raw_text}
 use Rattle.report_text.specs.Classes.{classes_text_of}
 use Rattle.report_text.specs.Constants.{constants_text_of}
 use Rattle.report_text.specs.Tests.{tests_text_of}
 use Rattle.report_text.specs.Arrays.{array_text_of}
+use Rattle.trace_text.specs.declared.stage_list.Stage.{Stage}
 use Rattle.trace_text.specs.TraceText.{trace_text}
 use Rattle.scheme_tests.specs.declared.properties.SchemeTests.{SchemeTests}
 use Rattle.scheme_tests.specs.Law.{AreAnswers}
@@ -33,7 +34,7 @@ use Rattle.cohere_core.specs.Fusions.{AnswersClose, ListsGood, AnswersMergings}
 use Rattle.cohere_core.proofs.ClosedLists.{one_closed}
 use Rattle.cohere_core.proofs.Divisions.{one_quotient, one_sub}
 use Rattle.cohere_core.proofs.FusionAnswers.{one_close, one_good, one_mergings}
-use Rattle.cohere_core.specs.Answer.{AnswersArray, WritesGraph, OfConfiguration, IsAccepted, Moves, Tells, Answers, move_of}
+use Rattle.cohere_core.specs.Answer.{AnswersArray, WritesGraph, OfConfiguration, IsAccepted, Moves, Tells, TellsTrace, Answers, move_of}
 use Rattle.cohere_core.specs.Agreement.{Agree, AgreeLineByLine, AreTracesOfOne}
 use Rattle.cohere_core.specs.Law.{HasNoTrace, OutputsAgree, RunsAgree, OutputIsUnique, RunIsUnique}
 use Rattle.cohere_core.specs.Products.{left_by}
@@ -93,18 +94,26 @@ one_graph : (K : PairColouring) (form : GraphForm) (set t u : List ℕ) → Writ
 one_graph K Graph6 set t u a b = one_side _ _ _ t u _ (λ x y. x ∙ sym y) a b
 one_graph K Digraph6 set t u a b = one_side _ _ _ t u _ (λ x y. x ∙ sym y) a b
 
--- the traces of alike histories claim one closure, by chains of the same colours
-traces_agree : (h k : History) (t u : List ℕ) → IsHistory h → AreAlike h k → Tells h Trace t → Tells k Trace u → AreTracesOfOne t u
+-- the traces of version 1 of alike histories claim one closure, by chains of the same colours
+traces_agree : (h k : History) (t u : List ℕ) → IsHistory h → AreAlike h k → Tells h (Trace 1) t → Tells k (Trace 1) u → AreTracesOfOne t u
 traces_agree h k t u i alike a b = record {
   closure = a.configuration;
   chain = present_chain h;
   other = present_chain k;
   colours = chain_is_unique h k i alike;
-  text = a.holds;
-  other_text = b.holds ∙ ap (λ (K : PairColouring). trace_text (claim_by (present_chain k) K)) (one_configuration h k a.configuration b.configuration i alike a.closure b.closure);
+  text = a.holds.first refl;
+  other_text = b.holds.first refl ∙ ap (λ (K : PairColouring). trace_text (claim_by (present_chain k) K)) (one_configuration h k a.configuration b.configuration i alike a.closure b.closure);
 }
 
-one_query : (h k : History) (act : Act) (t u : List ℕ) → IsHistory h → AreAlike h k → act ≢ Trace → Tells h act t → Tells k act u → t ≡ u
+-- and those of the other have the same rounds
+one_trace : (h k : History) (version : ℕ) (K : PairColouring) (t u : List ℕ) → IsHistory h → AreAlike h k → version ≢ 1
+    → TellsTrace version h K t → TellsTrace version k K u → t ≡ u
+one_trace h k version K t u i alike other a b =
+    let x = a.second other in
+    let y = b.second other in
+    x.2 ∙ ap (λ (rounds : List Stage). trace_text (round_claim_by rounds K)) (round_chain_is_unique h k x.0 y.0 i alike x.1 y.1) ∙ sym y.2
+
+one_query : (h k : History) (act : Act) (t u : List ℕ) → IsHistory h → AreAlike h k → act ≢ Trace 1 → Tells h act t → Tells k act u → t ≡ u
 one_query h k Show t u i alike n a b = one_text h k (λ K t. t ≡ show_text K) t u i alike (λ K x y. x ∙ sym y) a b
 one_query h k Raw t u i alike n a b = a ∙ ap raw_text (present_is_unique h k i alike) ∙ sym b
 one_query h k Classes t u i alike n a b = one_text h k (λ K t. t ≡ classes_text_of K) t u i alike (λ K x y. x ∙ sym y) a b
@@ -120,7 +129,9 @@ one_query h k (Close string) t u i alike n a b = one_configured h k (λ K t. Ans
 one_query h k Good t u i alike n a b = one_text h k (λ K t. ListsGood K t) t u i alike (λ K x y. one_good K t u x y) a b
 one_query h k (Mergings most after) t u i alike n a b = one_text h k (λ K t. AnswersMergings K most after t) t u i alike (λ K x y. one_mergings K most after t u x y) a b
 one_query h k (Write form set) t u i alike n a b = one_text h k (λ K t. WritesGraph K form set t) t u i alike (λ K x y. one_graph K form set t u x y) a b
-one_query h k Trace t u i alike n a b = absurd (n refl)
+one_query h k (Trace version) t u i alike n a b =
+    let same = one_configuration h k a.configuration b.configuration i alike a.closure b.closure in
+    one_trace h k version a.configuration t u i alike (λ e. n (ap Trace e)) a.holds (subst (λ (K : PairColouring). TellsTrace version k K u) same b.holds)
 one_query h k act t u i alike n a b = absurd a
 
 -- two answers of a query agree
@@ -202,7 +213,7 @@ outputs_agree C products lines t u raw a b =
 HasNoTrace-tail : (line : Line) (lines : List Line) → HasNoTrace (line ∷ lines) → HasNoTrace lines
 HasNoTrace-tail line lines n = λ k d l. n (suc k) d (omega (arith, l))
 
--- texts that agree line by line are equal, where no line asks for a trace
+-- texts that agree line by line are equal, where no line asks for a trace of version 1
 one_from_agreement : (lines : List Line) (t u : List ℕ) → HasNoTrace lines → AgreeLineByLine lines t u → t ≡ u
 one_from_agreement [] t u n a = a.0 ∙ sym a.1
 one_from_agreement (line ∷ lines) t u n (first, other, rest, others, agree, rests, is, is2) =

@@ -2,6 +2,7 @@
 use Rattle.std.proofs.Common.{◌≡◌, ◌≤◌, ◌<◌, ◌⊎◌, ℕ, ◌+◌, true, List, [], ◌∷◌, ◌++◌, length, get_or, take, drop, Option, Some, None, ⊎_elim, refl, sym, ap, subst, ◌∙◌, arith, append_assoc, length-append, inl, inr}
 use Rattle.std.proofs.lemmas.List.{take_more, take-append-le, append-nil}
 use Rattle.std.proofs.Math.Seq.{take-append-add}
+use Rattle.std.proofs.lemmas.Bool.{cases_eq}
 use Rattle.std.proofs.lemmas.Option.{slice_get-get_or}
 use Rattle.std.specs.Prelude.{◌≢◌, Result, Ok, Err, IfErr, IsErrAnd, OnErr, MatchOption, slice_get, codes}
 use Rattle.std.proofs.KnownBytes.{Appends-nil, Appends-trans}
@@ -10,13 +11,13 @@ use Rattle.scheme_io.specs.Bytes.{AppendsPart}
 use Rattle.pair_colours.specs.Colouring.{PairColouring, FitsColouring, IsRawColouring}
 use Rattle.pair_colours.specs.Naming.{rank_of}
 use Rattle.pair_colours.proofs.LawProofs.{named_closure_exists, closure_is_raw, colour_set_or_not, edge_set_or_not}
-use Rattle.recolour_bench.specs.EntryChains.{claim_by}
-use Rattle.recolour_bench.specs.History.{History, IsHistory, Starts, present, present_chain}
+use Rattle.recolour_bench.specs.EntryChains.{claim_by, round_claim_by}
+use Rattle.recolour_bench.specs.History.{History, IsHistory, Starts, no_entry, present, present_chain}
 use Rattle.recolour_bench.specs.declared.edits.EditFault.{EditFault}
 use Rattle.recolour_bench.specs.declared.edits.EditFault.TheVariants as faults
 use Rattle.recolour_bench.specs.Steps as steps
 use Rattle.recolour_bench.specs.Words.{edit_word}
-use Rattle.recolour_bench.proofs.LawProofs.{start_exists, start_is_history, step_exists, step_keeps, present_is_raw}
+use Rattle.recolour_bench.proofs.LawProofs.{start_exists, start_is_history, step_exists, step_keeps, present_is_raw, chains_follow}
 use Rattle.report_text.specs.EditLines.{ok_text, refused_text_of}
 use Rattle.report_text.specs.Matrices.{show_text, raw_text}
 use Rattle.report_text.specs.Classes.{classes_text_of}
@@ -24,6 +25,7 @@ use Rattle.report_text.specs.Constants.{constants_text_of}
 use Rattle.report_text.specs.Tests.{tests_text_of}
 use Rattle.report_text.specs.Arrays.{array_text_of}
 use Rattle.trace_text.specs.TraceText.{trace_text}
+use Rattle.trace_text.proofs.LawProofs.{round_chain_exists}
 use Rattle.scheme_tests.specs.declared.properties.SchemeTests.{SchemeTests}
 use Rattle.scheme_tests.specs.Law.{AreAnswers}
 use Rattle.scheme_tests.proofs.LawProofs.{answers_exist}
@@ -46,7 +48,7 @@ use Rattle.cohere_core.specs.Fusions.{AnswersClose, ListsGood, AnswersMergings}
 use Rattle.cohere_core.proofs.ClosedLists.{has_closed, closed_has_bytes}
 use Rattle.cohere_core.proofs.Divisions.{has_quotient, quotient_has_bytes, has_sub, sub_has_bytes}
 use Rattle.cohere_core.proofs.FusionAnswers.{has_close, close_has_bytes, has_good, good_has_bytes, has_mergings, mergings_has_bytes}
-use Rattle.cohere_core.specs.Answer.{AnswersArray, WritesGraph, OfConfiguration, IsAccepted, IsHalfway, MoveTakesMemory, Moves, TakesMemory, Tells, Answers, Runs, Answered, Stopped, move_of}
+use Rattle.cohere_core.specs.Answer.{AnswersArray, WritesGraph, OfConfiguration, IsAccepted, IsHalfway, MoveTakesMemory, Moves, TakesMemory, Tells, TellsTrace, Answers, Runs, Answered, Stopped, move_of}
 use Rattle.cohere_core.specs.Law.{OutputExists, RunExists}
 use Rattle.cohere_core.specs.Output.{AddsScriptFront}
 use Rattle.cohere_core.specs.Products.{AreProducts, HasProduct, left_by, left_after}
@@ -76,6 +78,16 @@ has_move h move raw i =
     (λ refuses. (s.0, refused_text_of (edit_word refuses.fault), inr (refuses.fault, refuses.refused, refuses.same, refl)))
     s.1
 
+-- every history has a trace of every closure
+has_trace : (h : History) (version : ℕ) (K : PairColouring) → IsHistory h → (t : List ℕ) × TellsTrace version h K t
+has_trace h version K i =
+    let follows = chains_follow h i h.position no_entry i.inside in
+    let rounds = round_chain_exists (present_chain h) follows.0 follows.1 in
+    ⊎_elim
+    (λ one. (trace_text (claim_by (present_chain h) K), record { first = λ _. refl; second = λ other. absurd (other one) }))
+    (λ other. (trace_text (round_claim_by rounds.0 K), record { first = λ one. absurd (other one); second = λ _. (rounds.0, rounds.1, refl) }))
+    (cases_eq version 1)
+
 has_query : (h : History) (act : Act) → IsHistory h → is_query act ≡ true → (t : List ℕ) × Tells h act t
 has_query h Show i m = has_configuration h i (λ K t. t ≡ show_text K) (λ K _ _. (show_text K, refl))
 has_query h Raw i m = (raw_text (present h), refl)
@@ -91,8 +103,7 @@ has_query h (Close string) i m =
     has_configuration h i (λ K t. AnswersClose K string t) (λ K is fits. has_close K (record { fits = fits; coherent = is.closure.coherent; named = is.named }) string)
 has_query h Good i m = has_configuration h i (λ K t. ListsGood K t) (λ K _ _. has_good K)
 has_query h (Mergings most after) i m = has_configuration h i (λ K t. AnswersMergings K most after t) (λ K _ _. has_mergings K most after)
-has_query h Trace i m =
-    has_configuration h i (λ K t. t ≡ trace_text (claim_by (present_chain h) K)) (λ K _ _. (trace_text (claim_by (present_chain h) K), refl))
+has_query h (Trace version) i m = has_configuration h i (λ K t. TellsTrace version h K t) (λ K _ _. has_trace h version K i)
 has_query h (Array set) i m =
     has_configuration h i (λ K t. AnswersArray K set t) (λ K _ fits. ⊎_elim
     (λ bad. (refused_text_of (codes "BadSet"), inl (bad, refl)))
@@ -144,6 +155,13 @@ line_has_bytes : (form : GraphNote) (text : List ℕ) → 0 < length (graph_line
 line_has_bytes notes.Graph6 text = omega arith
 line_has_bytes notes.Digraph6 text = omega arith
 
+trace_has_bytes : (h : History) (version : ℕ) (K : PairColouring) (t : List ℕ) → TellsTrace version h K t → 0 < length t
+trace_has_bytes h version K t a =
+    ⊎_elim
+    (λ one. subst (λ (s : List ℕ). 0 < length s) (sym (a.first one)) (omega arith))
+    (λ other. subst (λ (s : List ℕ). 0 < length s) (sym (a.second other).2) (omega arith))
+    (cases_eq version 1)
+
 query_has_bytes : (h : History) (act : Act) (t : List ℕ) → Tells h act t → 0 < length t
 query_has_bytes h Show t a = subst (λ (s : List ℕ). 0 < length s) (sym a.holds) (omega arith)
 query_has_bytes h Raw t a = subst (λ (s : List ℕ). 0 < length s) (sym a) (omega arith)
@@ -156,7 +174,7 @@ query_has_bytes h (Sub x set) t a = sub_has_bytes a.configuration x set t a.hold
 query_has_bytes h (Close string) t a = close_has_bytes a.configuration string t a.holds
 query_has_bytes h Good t a = good_has_bytes a.configuration t a.holds
 query_has_bytes h (Mergings most after) t a = mergings_has_bytes a.configuration most after t a.holds
-query_has_bytes h Trace t a = subst (λ (s : List ℕ). 0 < length s) (sym a.holds) (omega arith)
+query_has_bytes h (Trace version) t a = trace_has_bytes h version a.configuration t a.holds
 query_has_bytes h (Array set) t a =
     ⊎_elim
     (λ bad. subst (λ (s : List ℕ). 0 < length s) (sym bad.1) (omega arith))

@@ -1,4 +1,4 @@
--- How two outputs of one script may differ: in the steps of traces.
+-- How two outputs of one script may differ: in the steps of traces of version 1.
 use Rattle.std.specs.Prelude.{◌≡◌, ◌≢◌, ◌++◌, ℕ, List, [], ◌∷◌}
 use Rattle.pair_colours.specs.Colouring.{PairColouring}
 use Rattle.trace_text.specs.declared.stage_list.Stage.{Stage}
@@ -18,10 +18,10 @@ pub record AreTracesOfOne (t u : List ℕ) : Type 0 where
   pub text : t ≡ trace_text (claim_by chain closure)
   pub other_text : u ≡ trace_text (claim_by other closure)
 
--- two answers of one act: equal, unless the act asks for a trace, and then traces of one closure
+-- two answers of one act: equal, unless the act asks for a trace of version 1, and then traces of one closure
 pub record Agree (act : Act) (t u : List ℕ) : Type 0 where
-  pub same : act ≢ Trace → t ≡ u
-  pub traces : act ≡ Trace → AreTracesOfOne t u
+  pub same : act ≢ Trace 1 → t ≡ u
+  pub traces : act ≡ Trace 1 → AreTracesOfOne t u
 
 -- two texts that are the answers of the lines, one after the other
 abbrev pub AgreeLineByLine : List Line → List ℕ → List ℕ → Type 0

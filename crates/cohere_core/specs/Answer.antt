@@ -1,10 +1,10 @@
 -- The answers of a script, line by line.
-use Rattle.std.specs.Prelude.{◌≡◌, ◌⊎◌, ◌<◌, ◌++◌, ℕ, List, [], ◌∷◌, All, length, take, slice_get, Option, Some, None, option_map, MatchOption, codes, ⊤}
+use Rattle.std.specs.Prelude.{◌≡◌, ◌≢◌, ◌⊎◌, ◌<◌, ◌++◌, ℕ, List, [], ◌∷◌, All, length, take, slice_get, Option, Some, None, option_map, MatchOption, codes, ⊤}
 use Rattle.std.specs.Io.KnownBytes.{Appends}
 use Rattle.pair_colours.specs.Colouring.{PairColouring}
 use Rattle.pair_colours.specs.Closure.{IsClosureOf}
 use Rattle.pair_colours.specs.Naming.{rank_of}
-use Rattle.recolour_bench.specs.EntryChains.{claim_by}
+use Rattle.recolour_bench.specs.EntryChains.{claim_by, round_claim_by}
 use Rattle.recolour_bench.specs.History.{History, present, present_chain}
 use Rattle.recolour_bench.specs.declared.edits.EditFault.{EditFault}
 use Rattle.recolour_bench.specs.Edits as edits
@@ -16,6 +16,8 @@ use Rattle.report_text.specs.Classes.{classes_text_of}
 use Rattle.report_text.specs.Constants.{constants_text_of}
 use Rattle.report_text.specs.Tests.{tests_text_of}
 use Rattle.report_text.specs.Arrays.{array_text_of}
+use Rattle.trace_text.specs.declared.stage_list.Stage.{Stage}
+use Rattle.trace_text.specs.RoundChains.{IsRoundChain}
 use Rattle.trace_text.specs.TraceText.{trace_text}
 use Rattle.scheme_tests.specs.declared.properties.SchemeTests.{SchemeTests}
 use Rattle.scheme_tests.specs.Law.{AreAnswers}
@@ -83,8 +85,13 @@ WritesGraph K Digraph6 set t =
     (¬ IsColourSet K set × (t ≡ refused_text_of (codes "BadSet")))
     ⊎ (IsColourSet K set × (t ≡ graph_line notes.Digraph6 (digraph6_of K set)))
 
--- t answers a query at h; all queries but `raw` speak of the configuration,
--- and a trace is the text of the claim that the chain of the present entry leads to it
+-- t is a trace of the closure K of the present colouring: in version 1 the text of the claim by the chain of the present entry;
+-- in the other, which is 2, that of the claim by its chain of rounds
+pub record TellsTrace (version : ℕ) (h : History) (K : PairColouring) (t : List ℕ) : Type 0 where
+  pub first : version ≡ 1 → t ≡ trace_text (claim_by (present_chain h) K)
+  pub second : version ≢ 1 → (rounds : List Stage) × IsRoundChain (present_chain h) rounds × (t ≡ trace_text (round_claim_by rounds K))
+
+-- t answers a query at h; all queries but `raw` speak of the configuration
 abbrev pub Tells : History → Act → List ℕ → Type 0
 Tells h Show t = OfConfiguration h (λ K. t ≡ show_text K)
 Tells h Raw t = t ≡ raw_text (present h)
@@ -98,7 +105,7 @@ Tells h (Sub x set) t = OfConfiguration h (λ K. AnswersSub K x set t)
 Tells h (Close string) t = OfConfiguration h (λ K. AnswersClose K string t)
 Tells h Good t = OfConfiguration h (λ K. ListsGood K t)
 Tells h (Mergings most after) t = OfConfiguration h (λ K. AnswersMergings K most after t)
-Tells h Trace t = OfConfiguration h (λ K. t ≡ trace_text (claim_by (present_chain h) K))
+Tells h (Trace version) t = OfConfiguration h (λ K. TellsTrace version h K t)
 Tells h (Write form set) t = OfConfiguration h (λ K. WritesGraph K form set t)
 Tells h _ t = ⊥
 

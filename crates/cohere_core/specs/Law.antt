@@ -29,7 +29,7 @@ OutputExists = (C : PairColouring) (products : List PairColouring) (lines : List
 abbrev pub RunExists : Type 0
 RunExists = (h : History) (products : List PairColouring) (lines : List Line) → IsHistory h → AreProducts products lines → (end : History) × (t : List ℕ) × Runs h products lines end t
 
--- the outputs of a script over a colouring agree line by line: they differ in the steps of traces alone
+-- the outputs of a script over a colouring agree line by line: they differ in the steps of traces of version 1 alone
 abbrev pub OutputsAgree : Type 0
 OutputsAgree =
     (C : PairColouring) (products : List PairColouring) (lines : List Line) (t u : List ℕ) → IsRawColouring C
@@ -41,9 +41,9 @@ RunsAgree =
     (h k end other : History) (products : List PairColouring) (lines : List Line) (t u : List ℕ) → IsHistory h → IsHistory k → AreAlike h k
     → Runs h products lines end t → Runs k products lines other u → AreAlike end other × AgreeLineByLine lines t u
 
--- no line asks for a trace, whose steps may be chosen
+-- no line asks for a trace of version 1, whose steps may be chosen
 abbrev pub HasNoTrace : List Line → Type 0
-HasNoTrace lines = All (λ line. line.act ≢ Trace) lines
+HasNoTrace lines = All (λ line. line.act ≢ Trace 1) lines
 
 -- where no line does, a script has one output over a colouring
 abbrev pub OutputIsUnique : Type 0
@@ -68,12 +68,12 @@ pub record ShowsClosure (C K : PairColouring) (text : List ℕ) : Type 0 where
 
 -- each trace that is shown is one of the closure of the present colouring
 abbrev pub TraceShowsClosure : Type 0
-TraceShowsClosure = (h : History) (text : List ℕ) → IsHistory h → Tells h Trace text → (K : PairColouring) × ShowsClosure (present h) K text
+TraceShowsClosure = (h : History) (version : ℕ) (text : List ℕ) → IsHistory h → Tells h (Trace version) text → (K : PairColouring) × ShowsClosure (present h) K text
 
 -- and a check of a file that holds it, over which no count of faults rises, ends with Done, unless memory is wanting
 abbrev pub TraceIsChecked : Type 0
 TraceIsChecked =
-    (h : History) (text : List ℕ) (files : Files) (name : List ℕ) (status : Status) → IsHistory h → Tells h Trace text → get files name ≡ Some text
+    (h : History) (version : ℕ) (text : List ℕ) (files : Files) (name : List ℕ) (status : Status) → IsHistory h → Tells h (Trace version) text → get files name ≡ Some text
     → IsStatusWithoutFaults (Check name) status (Some files) → (status ≡ Done) ⊎ (status ≡ NoMemory)
 
 -- the demonstration of each number has an output

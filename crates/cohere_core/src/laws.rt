@@ -3,10 +3,10 @@
 ghost use Rattle.cohere_core.specs.Law.{OutputExists, RunExists, OutputsAgree, RunsAgree, OutputIsUnique, RunIsUnique, TraceShowsClosure, TraceIsChecked, DemoExists, DemoIsUnique};
 
 /// Every script has an output over every relation, and its lines lead on from every history, as
-/// from the one where a session stopped. Its outputs differ in the steps of traces alone: answer by
-/// answer they are equal, and two traces claim one closure, by chains of the same colours. Where no
-/// line asks for a trace, there is only one output. So too for the answers from alike histories,
-/// which lead to alike histories.
+/// from the one where a session stopped. Its outputs differ in the steps of traces of version 1 alone:
+/// answer by answer they are equal, and two such traces claim one closure, by chains of the same
+/// colours. Where no line asks for one, there is only one output. So too for the answers from alike
+/// histories, which lead to alike histories.
 pub fn outputs()
     ensures exist { OutputExists }
     ensures from_everywhere { RunExists }

@@ -1,13 +1,15 @@
 //! The answers of the lines that change nothing.
 
-ghost use Rattle.std.specs.Prelude.{◌≡◌, true, IfOk};
+ghost use Rattle.std.specs.Prelude.{◌≡◌, List, true, IfOk};
 ghost use Rattle.pair_colours.specs.Closure.{IsClosureOf};
-ghost use Rattle.recolour_bench.specs.EntryChains.{claim_by};
+ghost use Rattle.recolour_bench.specs.EntryChains.{claim_by, round_claim_by};
 ghost use Rattle.recolour_bench.specs.History.{present, present_chain};
 ghost use Rattle.report_text.specs.Matrices.{show_text};
 ghost use Rattle.report_text.specs.Classes.{classes_text_of};
 ghost use Rattle.report_text.specs.Constants.{constants_text_of};
 ghost use Rattle.report_text.specs.Tests.{tests_text_of};
+ghost use Rattle.trace_text.specs.declared.stage_list.Stage.{Stage};
+ghost use Rattle.trace_text.specs.RoundChains.{IsRoundChain};
 ghost use Rattle.trace_text.specs.TraceText.{trace_text};
 ghost use Rattle.scheme_tests.specs.declared.properties.SchemeTests.{SchemeTests};
 ghost use Rattle.scheme_tests.specs.Law.{AreAnswers};
@@ -15,7 +17,7 @@ ghost use Rattle.script_text.specs.Grammar.{IsLimit};
 ghost use Rattle.script_text.specs.Script.{KeepsLimit};
 ghost use Rattle.cohere_core.specs.ClosedSubsets.{ListsClosed, AnswersQuotient, AnswersSub};
 ghost use Rattle.cohere_core.specs.Fusions.{AnswersClose, ListsGood, AnswersMergings};
-ghost use Rattle.cohere_core.specs.Answer.{AnswersArray, OfConfiguration, Tells, WritesGraph};
+ghost use Rattle.cohere_core.specs.Answer.{AnswersArray, OfConfiguration, Tells, TellsTrace, WritesGraph};
 ghost use Rattle.cohere_core.specs.Queries.{is_query};
 
 use crate::fusion_queries::{close_answer, good_answer, mergings_answer};
@@ -34,6 +36,7 @@ use std::alloc::Global;
 use struct_consts::Constants;
 use trace_text::write_trace;
 use visitors::Visitor;
+use wl_refine::rounds;
 
 // The structure constants of the closure.
 fn constants_of(alloc: Global, bench: &Bench) -> Result<Constants, NoMemory>
@@ -186,11 +189,30 @@ fn listed_mergings(
     }
 }
 
-/// The trace of the chain that shows the closure.
+/// The trace, of version 1, of the chain that shows the closure.
 pub(crate) fn traced(alloc: Global, bench: &Bench) -> Result<Vec<u8>, NoMemory>
     ensures { IfOk result (λ text. OfConfiguration bench.now (λ K. text.items ≡ trace_text (claim_by (present_chain bench.now) K))) }
 {
-    write_trace(alloc, bench.chain(), bench.closure())
+    write_trace(alloc, 1, bench.chain(), bench.closure())
+}
+
+/// The trace, of version 2, of its chain of rounds.
+fn traced_by_rounds(alloc: Global, bench: &Bench) -> Result<Vec<u8>, NoMemory>
+    ensures { IfOk result (λ text. OfConfiguration bench.now (λ K. (chain : List Stage) × IsRoundChain (present_chain bench.now) chain × (text.items ≡ trace_text (round_claim_by chain K)))) }
+{
+    let chain = rounds(alloc, bench.chain())?;
+    write_trace(alloc, 2, chain.as_slice(), bench.closure())
+}
+
+/// The trace of a version.
+fn trace_answer(alloc: Global, bench: &Bench, version: u32) -> Result<Vec<u8>, NoMemory>
+    ensures { IfOk result (λ text. OfConfiguration bench.now (λ K. TellsTrace version bench.now K text.items)) }
+{
+    if version == 1 {
+        traced(alloc, bench)
+    } else {
+        traced_by_rounds(alloc, bench)
+    }
 }
 
 /// Answers a query.
@@ -217,7 +239,7 @@ pub(crate) fn query_answer(
         Act::Close { string } => closed_string(alloc, bench, string.as_slice()),
         Act::Good => listed_good(alloc, bench, visitor),
         Act::Mergings { most, after } => listed_mergings(alloc, bench, *most, after, visitor),
-        Act::Trace => traced(alloc, bench),
+        Act::Trace { version } => trace_answer(alloc, bench, *version),
         Act::Write { form, set } => written(alloc, bench, *form, set.as_slice()),
         _ => unreachable!(),
     }

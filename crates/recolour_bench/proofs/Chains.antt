@@ -11,8 +11,11 @@ use Rattle.trace_text.specs.declared.stage_list.Stage.{Stage}
 use Rattle.trace_text.specs.Chains.{Follows, stage_start, IsStageOf, chain_end, AreStages}
 use Rattle.trace_text.specs.Split.{Lead, partition_after}
 use Rattle.trace_text.specs.Acceptance.{Accepts}
+use Rattle.trace_text.specs.RoundChains.{AreFollowing}
+use Rattle.trace_text.specs.Versions.{HasStep, IsVersioned}
 use Rattle.trace_text.proofs.Leads.{lead_after}
 use Rattle.trace_text.proofs.Stages.{IsBetween, IsEnd, start_between, end_between, stages_between, chain_end-push, closure_at_end, accepts_more}
+use Rattle.trace_text.proofs.RoundChains.{following_from_stages}
 use Rattle.trace_text.proofs.Decided.{refines_or_not}
 use Rattle.trace_text.proofs.LawProofs.{steps_exist}
 use Rattle.recolour_bench.specs.EntryChains.{IsChainOf, claim_by}
@@ -22,7 +25,11 @@ use Rattle.recolour_bench.specs.History.{Entry, IsFirstEntry, IsEntryAfter, AreE
 abbrev pub IsRawStage : Stage → Type 0
 IsRawStage stage = IsRawColouring stage.colours
 
--- and the colouring of the entry
+-- its steps are on one class each
+abbrev pub IsOfOneClass : Stage → Type 0
+IsOfOneClass stage = AllByRecursion (HasStep 1) stage.steps
+
+-- the colouring of the entry is within the limits
 abbrev pub IsRawEntry : Entry → Type 0
 IsRawEntry entry = IsRawColouring entry.colouring
 
@@ -35,14 +42,15 @@ pub record MayGoOn (before : List Stage) (C : PairColouring) : Type 0 where
 pub MayGoOn-none : (C : PairColouring) → MayGoOn [] C
 MayGoOn-none C = record { stages = tt; end = tt; follows = tt }
 
--- with steps to a coherent partition it makes a chain of C
+-- with steps on one class each to a coherent partition it makes a chain of C
 pub IsChainOf-made : (C P : PairColouring) (before chain : List Stage) (stage : Stage) → IsColouring C → MayGoOn before C → stage.colours ≡ C
-    → Lead stage.steps (stage_start (chain_end before) C) P → Coherent P → chain ≡ before ++ stage ∷ [] → IsChainOf C before chain
-IsChainOf-made C P before chain stage c may same leads coherent is = record {
+    → Lead stage.steps (stage_start (chain_end before) C) P → IsOfOneClass stage → Coherent P → chain ≡ before ++ stage ∷ [] → IsChainOf C before chain
+IsChainOf-made C P before chain stage c may same leads one_class coherent is = record {
   stage = stage;
   colours = same;
   stages = is;
-  accepted = λ K k. subst (λ (stages : List Stage). Accepts (claim_by stages K)) (sym is) (accepts_more before stage P K may.stages follows coherent (closure_is K k));
+  one_class = one_class;
+  accepted = λ K k. subst (λ (stages : List Stage). Accepts (claim_by stages K)) (sym is) (accepts_more 1 before stage P K may.stages follows coherent (closure_is K k));
 }
   where
     follows : IsStageOf (chain_end before) stage P
@@ -72,23 +80,25 @@ chain_exists C before c may =
     let led = steps_exist (stage_start (chain_end before) C) start.partition in
     let stage : Stage = record { colours = C; steps = led.0 } in
     let P = led.1 in
-    (before ++ stage ∷ [], IsChainOf-made C P before (before ++ stage ∷ []) stage c may refl led.4 led.3 refl)
+    (before ++ stage ∷ [], IsChainOf-made C P before (before ++ stage ∷ []) stage c may refl led.4 led.5 led.3 refl)
 
--- the chain of the entry shows the closure of its colouring, and has at most n stages, all within the limits
+-- the chain of the entry shows the closure of its colouring, and has at most n stages, all within the limits and with steps on one class each
 pub record IsSound (n : ℕ) (entry : Entry) : Type 0 where
   pub raw : IsRawColouring entry.colouring
   pub front : List Stage
   pub chain : IsChainOf entry.colouring front entry.chain
   pub colours : All IsRawStage entry.chain
+  pub one_class : All IsOfOneClass entry.chain
   pub few : length entry.chain ≤ n
 
 pub IsSound-made : (n : ℕ) (C : PairColouring) (before : List Stage) (entry : Entry) → IsRawColouring C → entry.colouring ≡ C → IsChainOf C before entry.chain
-    → All IsRawStage before → length before ≤ n → IsSound (n + 1) entry
-IsSound-made n C before entry c same chain all short = record {
+    → All IsRawStage before → All IsOfOneClass before → length before ≤ n → IsSound (n + 1) entry
+IsSound-made n C before entry c same chain all one_class short = record {
   raw = subst IsRawColouring (sym same) c;
   front = before;
   chain = subst (λ D. IsChainOf D before entry.chain) (sym same) chain;
   colours = subst (All IsRawStage) (sym chain.stages) (All-push IsRawStage before chain.stage all (subst IsRawColouring (sym chain.colours) c));
+  one_class = subst (All IsOfOneClass) (sym chain.stages) (All-push IsOfOneClass before chain.stage one_class chain.one_class);
   few = omega (arith, ap length chain.stages, length-append before (chain.stage ∷ []), short);
 }
 
@@ -98,10 +108,21 @@ claim_of n entry s =
     let k = named_closure_exists entry.colouring s.raw.fits.colouring in
     (k.0, s.chain.accepted k.0 k.1)
 
+-- which is of version 1
+pub IsVersioned-sound : (n : ℕ) (entry : Entry) (K : PairColouring) → IsSound n entry → IsVersioned (claim_by entry.chain K)
+IsVersioned-sound n entry K s = record { version = record { least = omega arith; most = omega arith }; steps = recursion_from_All IsOfOneClass entry.chain s.one_class }
+
+-- the stages are of colourings, and follow one another
+pub colourings-sound : (n : ℕ) (entry : Entry) → IsSound n entry → All (λ stage. IsColouring stage.colours) entry.chain
+colourings-sound n entry s = λ i d l. (s.colours i d l).fits.colouring
+
+pub following-sound : (n : ℕ) (entry : Entry) → IsSound n entry → AreFollowing None entry.chain
+following-sound n entry s = following_from_stages None entry.chain (claim_of n entry s).1.stages
+
 -- the chain ends between its colouring and its closure
 pub IsEnd-sound : (n : ℕ) (entry : Entry) → IsSound n entry → IsEnd (chain_end entry.chain)
 IsEnd-sound n entry s =
-    stages_between None entry.chain tt (recursion_from_All (λ stage. IsColouring stage.colours) entry.chain (λ i d l. (s.colours i d l).fits.colouring)) (claim_of n entry s).1.stages
+    stages_between None entry.chain tt (recursion_from_All (λ stage. IsColouring stage.colours) entry.chain (colourings-sound n entry s)) (claim_of n entry s).1.stages
 
 -- so another may go on from it
 pub MayGoOn-sound : (n : ℕ) (entry : Entry) (C : PairColouring) → IsSound n entry → Refines C entry.colouring → MayGoOn entry.chain C
@@ -116,8 +137,8 @@ MayGoOn-sound n entry C s r = record {
 -- an entry after a sound one is sound
 pub IsSound-after : (n : ℕ) (before : Entry) (C : PairColouring) (entry : Entry) → IsSound n before → IsRawColouring C → IsEntryAfter before C entry → IsSound (n + 1) entry
 IsSound-after n before C entry s c after = ⊎_elim
-    (λ r. IsSound-made n C before.chain entry c after.colouring (after.goes_on r) s.colours s.few)
-    (λ not. IsSound-made n C [] entry c after.colouring (after.starts not) (All-nil IsRawStage) (omega arith))
+    (λ r. IsSound-made n C before.chain entry c after.colouring (after.goes_on r) s.colours s.one_class s.few)
+    (λ not. IsSound-made n C [] entry c after.colouring (after.starts not) (All-nil IsRawStage) (All-nil IsOfOneClass) (omega arith))
     (refines_or_not C before.colouring)
 
 sound_after : (n : ℕ) (before : Entry) (rest : List Entry) (p : ℕ) → IsSound n before → AreEntriesAfter before rest → AllByRecursion IsRawEntry rest → p < length rest
@@ -130,10 +151,10 @@ sound_after n before (entry ∷ rest) (suc p) s all raw l =
 
 sound_by_recursion : (entries : List Entry) (p : ℕ) → AreEntries entries → AllByRecursion IsRawEntry entries → p < length entries → IsSound (p + 1) (get_or entries p no_entry)
 sound_by_recursion [] p all raw l = absurd (omega (arith, l))
-sound_by_recursion (first ∷ rest) zero all raw l = IsSound-made 0 first.colouring [] first raw.0 refl all.0.chain (All-nil IsRawStage) (omega arith)
+sound_by_recursion (first ∷ rest) zero all raw l = IsSound-made 0 first.colouring [] first raw.0 refl all.0.chain (All-nil IsRawStage) (All-nil IsOfOneClass) (omega arith)
 sound_by_recursion (first ∷ rest) (suc p) all raw l =
     subst (λ m. IsSound m (get_or rest p no_entry)) (omega arith)
-    (sound_after 1 first rest p (IsSound-made 0 first.colouring [] first raw.0 refl all.0.chain (All-nil IsRawStage) (omega arith)) all.1 raw.1 (omega (arith, l)))
+    (sound_after 1 first rest p (IsSound-made 0 first.colouring [] first raw.0 refl all.0.chain (All-nil IsRawStage) (All-nil IsOfOneClass) (omega arith)) all.1 raw.1 (omega (arith, l)))
 
 -- each entry is
 pub sound_at : (entries : List Entry) (p : ℕ) → AreEntries entries → All IsRawEntry entries → p < length entries → IsSound (p + 1) (get_or entries p no_entry)

@@ -25,7 +25,7 @@ use Rattle.recolour_bench.specs.EntryChains.{IsChainOf}
 use Rattle.recolour_bench.specs.History.{Entry, IsEntryAfter, Starts, no_entry, entry_at}
 use Rattle.recolour_bench.specs.Steps.{edits, Makes, IsRefusedAt, EditStep, RedoStep, IsRefused}
 use Rattle.recolour_bench.specs.Kept.{no_stage, no_kept, entry_kept, history_of, IsKeptOf, IsKeptHistory, IsMadeFrom, IsMadeFromMeet}
-use Rattle.recolour_bench.proofs.Chains.{IsSound, MayGoOn, MayGoOn-none, MayGoOn-sound, IsEnd-sound, IsChainOf-made, chain_end-made, sound_at}
+use Rattle.recolour_bench.proofs.Chains.{IsOfOneClass, IsSound, MayGoOn, MayGoOn-none, MayGoOn-sound, IsEnd-sound, IsChainOf-made, chain_end-made, sound_at}
 use Rattle.recolour_bench.proofs.Stepping.{IsHistory-edited, start_is_history}
 
 -- an entry of a stage and of what is kept, of the stages up to here
@@ -101,6 +101,7 @@ entry_made stages position made = entry_by (take (position + 1) stages ++ made.s
 record IsLed (C P : PairColouring) (before chain : List Stage) (stage : Stage) : Type 0 where
   may : MayGoOn before C
   leads : Lead stage.steps (stage_start (chain_end before) C) P
+  one_class : IsOfOneClass stage
   coherent : Coherent P
   is : chain ≡ before ++ stage ∷ []
 
@@ -113,6 +114,7 @@ led_on : (stages : List Stage) (kept : List Kept) (position : ℕ) (stage : Stag
 led_on stages kept position stage now raw made here c m r = record {
   may = MayGoOn-sound (position + 1) (entry_by (take (position + 1) stages) stage now) raw here.sound r;
   leads = subst (λ P. Lead made.stage.steps P made.kept.last) (from_is ∙ sym (ap (λ end. stage_start end raw) here.of.ends)) (m.goes_on r).made.leads;
+  one_class = (m.goes_on r).made.one_class;
   coherent = (m.goes_on r).made.coherent;
   is =
       ap (λ start. drop start (take (position + 1) stages ++ made.stage ∷ [])) (m.goes_on r).made.start
@@ -130,6 +132,7 @@ led_anew : (stages : List Stage) (position : ℕ) (before : PairColouring) (now 
 led_anew stages position before now raw made l m not = record {
   may = MayGoOn-none raw;
   leads = (m.starts not).leads;
+  one_class = (m.starts not).one_class;
   coherent = (m.starts not).coherent;
   is =
       ap (λ start. drop start (front ++ made.stage ∷ [])) (m.starts not).start
@@ -144,7 +147,7 @@ led_anew stages position before now raw made l m not = record {
     len = length-front stages position l
 
 chain_led : (C P : PairColouring) (before chain : List Stage) (stage : Stage) → IsColouring C → stage.colours ≡ C → IsLed C P before chain stage → IsChainOf C before chain
-chain_led C P before chain stage c same d = IsChainOf-made C P before chain stage c d.may same d.leads d.coherent d.is
+chain_led C P before chain stage c same d = IsChainOf-made C P before chain stage c d.may same d.leads d.one_class d.coherent d.is
 
 end_led : (C P : PairColouring) (before chain : List Stage) (stage : Stage) → stage.colours ≡ C → IsLed C P before chain stage
     → chain_end chain ≡ Some (record { colours = stage.colours; partition = P })
@@ -325,7 +328,7 @@ Starts-kept C made c same m = record {
 }
   where
     led_first : (D : PairColouring) (new : Made) → IsMadeFrom (named_of D) 0 new → IsLed D new.kept.last [] (drop new.kept.start (new.stage ∷ [])) new.stage
-    led_first D new n = record { may = MayGoOn-none D; leads = n.leads; coherent = n.coherent; is = ap (λ start. drop start (new.stage ∷ [])) n.start }
+    led_first D new n = record { may = MayGoOn-none D; leads = n.leads; one_class = n.one_class; coherent = n.coherent; is = ap (λ start. drop start (new.stage ∷ [])) n.start }
 
 pub IsKeptHistory-first : (C : PairColouring) (made : Made) → IsRawColouring C → made.stage.colours ≡ C → IsClosureOf made.kept.closure C → IsMadeFrom (named_of C) 0 made
     → IsKeptHistory (made.stage ∷ []) (made.kept ∷ []) 0

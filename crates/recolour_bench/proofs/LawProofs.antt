@@ -1,6 +1,6 @@
 -- The laws of this crate, for the proofs of crates above.
 use Rattle.std.proofs.Common.{refl}
-use Rattle.recolour_bench.specs.Law.{StartExists, StartIsHistory, StartIsUnique, StepExists, StepKeeps, StepIsUnique, NotBoth, RefusalIsUnique, RefusalIsAlike, PresentIsRaw, PresentIsUnique, ChainsAreAccepted, ChainsAreShort, ChainsAreRaw, ChainTextsFit, ChainIsUnique, FixTakesLeast, GrowthIsTested, FibresAreTested, MostPosition}
+use Rattle.recolour_bench.specs.Law.{StartExists, StartIsHistory, StartIsUnique, StepExists, StepKeeps, StepIsUnique, NotBoth, RefusalIsUnique, RefusalIsAlike, PresentIsRaw, PresentIsUnique, ChainsAreAccepted, ChainsAreShort, ChainsAreRaw, ChainTextsFit, RoundChainsAreAccepted, ChainsFollow, ChainIsUnique, RoundChainIsUnique, FixTakesLeast, GrowthIsTested, FibresAreTested, MostPosition}
 use Rattle.recolour_bench.proofs.Stepping as stepping
 use Rattle.recolour_bench.proofs.Alike as alike
 use Rattle.recolour_bench.proofs.Showing as showing
@@ -52,8 +52,17 @@ chains_are_raw = showing.chains_are_raw
 pub chain_texts_fit : ChainTextsFit
 chain_texts_fit = showing.chain_texts_fit
 
+pub round_chains_are_accepted : RoundChainsAreAccepted
+round_chains_are_accepted = showing.round_chains_are_accepted
+
+pub chains_follow : ChainsFollow
+chains_follow = showing.chains_follow
+
 pub chain_is_unique : ChainIsUnique
 chain_is_unique = alike.chain_is_unique
+
+pub round_chain_is_unique : RoundChainIsUnique
+round_chain_is_unique = showing.round_chain_is_unique
 
 pub fix_takes_least : FixTakesLeast
 fix_takes_least C is = IsLeastUnused-least_unused C is.fits.colouring

@@ -1,11 +1,13 @@
 -- What a bench keeps: the stages of all entries, and of each entry its closure, where its chain starts and where it ends.
 use Rattle.std.specs.Prelude.{◌≡◌, ℕ, ◌+◌, ◌<◌, ◌≤◌, List, [], length, map, take, drop, slice_index_or, Some}
+use Rattle.std.specs.List.{AllByRecursion}
 use Rattle.pair_colours.specs.Colouring.{PairColouring, points}
 use Rattle.pair_colours.specs.Closure.{Coherent, IsClosureOf}
 use Rattle.pair_colours.specs.Naming.{IsNamedMeet}
 use Rattle.trace_text.specs.declared.stage_list.Stage.{Stage}
 use Rattle.trace_text.specs.Chains.{chain_end}
 use Rattle.trace_text.specs.Split.{Lead}
+use Rattle.trace_text.specs.Versions.{HasStep}
 use Rattle.recolour_bench.specs.declared.kept.Kept.{Kept}
 use Rattle.recolour_bench.specs.declared.chaining.Made.{Made}
 use Rattle.recolour_bench.specs.History.{Entry, History, IsHistory, no_entry}
@@ -40,9 +42,10 @@ pub record IsKeptHistory (stages : List Stage) (kept : List Kept) (position : �
   pub starts : (place : ℕ) → place < length stages → (slice_index_or kept place no_kept).start ≤ place
   pub entries : (place : ℕ) → place < length stages → IsKeptOf (entry_kept stages kept place) (slice_index_or kept place no_kept)
 
--- the steps of a new stage lead from P to where the chain ends, and the chain starts at this place
+-- the steps of a new stage lead from P, each by a split of one class, to where the chain ends, and the chain starts at this place
 pub record IsMadeFrom (P : PairColouring) (place : ℕ) (new : Made) : Type 0 where
   pub leads : Lead new.stage.steps P new.kept.last
+  pub one_class : AllByRecursion (HasStep 1) new.stage.steps
   pub coherent : Coherent new.kept.last
   pub start : new.kept.start ≡ place
 

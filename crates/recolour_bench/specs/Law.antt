@@ -1,16 +1,19 @@
 -- What holds of histories and their moves.
-use Rattle.std.specs.Prelude.{◌≡◌, ◌↔◌, ℕ, ◌+◌, ◌≤◌, List, length, All, IsTrue}
+use Rattle.std.specs.Prelude.{◌≡◌, ◌↔◌, ℕ, ◌+◌, ◌≤◌, List, length, All, IsTrue, None}
 use Rattle.pair_colours.specs.Colouring.{PairColouring, IsColouring, IsRawColouring}
 use Rattle.pair_colours.specs.Closure.{IsClosureOf}
 use Rattle.trace_text.specs.declared.limits.TheConstants.{MOST_TRACE}
+use Rattle.trace_text.specs.declared.stage_list.Stage.{Stage}
 use Rattle.trace_text.specs.Acceptance as traces
+use Rattle.trace_text.specs.RoundChains.{IsRoundChain, AreFollowing}
 use Rattle.trace_text.specs.TraceText.{trace_text}
+use Rattle.trace_text.specs.Versions.{IsVersioned}
 use Rattle.pair_colours.specs.Fibres.{HasOneFibre}
 use Rattle.colour_wl.specs.GrowthStrings.{IsGrowth}
 use Rattle.recolour_bench.specs.declared.edits.EditFault.{EditFault}
 use Rattle.recolour_bench.specs.declared.history.TheConstants.{MOST_POSITION}
 use Rattle.recolour_bench.specs.Recolouring.{IsLeastUnused, least_unused}
-use Rattle.recolour_bench.specs.EntryChains.{claim_by}
+use Rattle.recolour_bench.specs.EntryChains.{claim_by, round_claim_by}
 use Rattle.recolour_bench.specs.History.{Entry, History, IsHistory, Starts, AreAlike, present, present_chain, stage_colours}
 use Rattle.recolour_bench.specs.Steps.{Move, IsRawMove, grows, one_fibre, Accepts, IsRefused, Step}
 
@@ -54,13 +57,22 @@ PresentIsRaw = (h : History) → IsHistory h → IsRawColouring (present h)
 abbrev pub PresentIsUnique : Type 0
 PresentIsUnique = (h k : History) → IsHistory h → AreAlike h k → present h ≡ present k
 
--- the chain of the entry shows the closure of its colouring: the claim is accepted
+-- the chain of the entry shows the closure of its colouring: the claim is accepted, and is of version 1
 abbrev pub IsShown : Entry → Type 0
-IsShown entry = (K : PairColouring) → IsClosureOf K entry.colouring → traces.Accepts (claim_by entry.chain K)
+IsShown entry = (K : PairColouring) → IsClosureOf K entry.colouring → traces.Accepts (claim_by entry.chain K) × IsVersioned (claim_by entry.chain K)
 
 -- the text of each such claim is within the limit of a trace
 abbrev pub FitsText : Entry → Type 0
 FitsText entry = (K : PairColouring) → IsClosureOf K entry.colouring → length (trace_text (claim_by entry.chain K)) ≤ MOST_TRACE
+
+-- the rounds over its colours show it too, by a claim of version 2, whose text is within that limit
+abbrev pub IsShownByRounds : Entry → Type 0
+IsShownByRounds entry = (K : PairColouring) (rounds : List Stage) → IsClosureOf K entry.colouring → IsRoundChain entry.chain rounds
+    → traces.Accepts (round_claim_by rounds K) × IsVersioned (round_claim_by rounds K) × (length (trace_text (round_claim_by rounds K)) ≤ MOST_TRACE)
+
+-- its chain has stages of colourings, each of which refines that of the stage before
+abbrev pub IsFollowing : Entry → Type 0
+IsFollowing entry = AreFollowing None entry.chain × All (λ stage. IsColouring stage.colours) entry.chain
 
 -- each chain of a history shows the closure
 abbrev pub ChainsAreAccepted : Type 0
@@ -77,9 +89,21 @@ ChainsAreRaw = (h : History) → IsHistory h → All (λ entry. All (λ stage. I
 abbrev pub ChainTextsFit : Type 0
 ChainTextsFit = (h : History) → IsHistory h → All FitsText h.entries
 
+-- the rounds over it show the closure too; there are some, since the colours of its stages follow one another
+abbrev pub RoundChainsAreAccepted : Type 0
+RoundChainsAreAccepted = (h : History) → IsHistory h → All IsShownByRounds h.entries
+
+abbrev pub ChainsFollow : Type 0
+ChainsFollow = (h : History) → IsHistory h → All IsFollowing h.entries
+
 -- alike histories have present chains of the same colours
 abbrev pub ChainIsUnique : Type 0
 ChainIsUnique = (h k : History) → IsHistory h → AreAlike h k → stage_colours (present_chain h) ≡ stage_colours (present_chain k)
+
+-- and so the same rounds over them
+abbrev pub RoundChainIsUnique : Type 0
+RoundChainIsUnique =
+    (h k : History) (rounds other : List Stage) → IsHistory h → AreAlike h k → IsRoundChain (present_chain h) rounds → IsRoundChain (present_chain k) other → rounds ≡ other
 
 -- the number that `fix` takes is the least that no pair has
 abbrev pub FixTakesLeast : Type 0

@@ -1,8 +1,9 @@
 //! The history of a colouring under edits.
 
-ghost use Rattle.std.specs.Prelude.{◌≡◌, ◌≢◌, ◌+◌, ◌≤◌, All, IfOk, IfErr, OnOk, OnErr, length};
-ghost use Rattle.pair_colours.specs.Colouring.{PairColouring, IsRawColouring};
+ghost use Rattle.std.specs.Prelude.{◌≡◌, ◌≢◌, ◌+◌, ◌≤◌, All, IfOk, IfErr, None, OnOk, OnErr, length};
+ghost use Rattle.pair_colours.specs.Colouring.{PairColouring, IsColouring, IsRawColouring};
 ghost use Rattle.pair_colours.specs.Closure.{IsClosureOf};
+ghost use Rattle.trace_text.specs.RoundChains.{AreFollowing};
 ghost use Rattle.recolour_bench.specs.Edits.{IsRawEdit, edit_of};
 ghost use Rattle.recolour_bench.specs.History.{IsHistory, Starts, present, present_chain};
 ghost use Rattle.recolour_bench.specs.Steps.{edits, undoes, redoes, Accepts, IsRefused, Step};
@@ -96,10 +97,13 @@ impl Bench {
     }
 
     /// The stages that show the closure, the last of them of the present colouring. Where the
-    /// present colouring refines the one before, they are the chain of that one and a stage more.
+    /// present colouring refines the one before, they are the chain of that one and a stage more. The
+    /// colours of each stage refine those of the stage before, so that there are rounds over them.
     pub fn chain(&self) -> &[Stage]
         ensures value { result.now ≡ present_chain self.now }
         ensures within { All (λ stage. IsRawColouring stage.colours) result.now }
+        ensures colourings { All (λ stage. IsColouring stage.colours) result.now }
+        ensures following { AreFollowing None result.now }
         ensures few { length result.now ≤ MOST_POSITION + 1 }
     {
         let place = self.position as usize;

@@ -1,6 +1,6 @@
 //! Laws over the definitions alone. Each is the contract of a function that does nothing.
 
-ghost use Rattle.recolour_bench.specs.Law.{StartExists, StartIsHistory, StartIsUnique, StepExists, StepKeeps, StepIsUnique, NotBoth, RefusalIsUnique, RefusalIsAlike, PresentIsRaw, PresentIsUnique, ChainsAreAccepted, ChainsAreShort, ChainsAreRaw, ChainTextsFit, ChainIsUnique, FixTakesLeast, GrowthIsTested, FibresAreTested, MostPosition};
+ghost use Rattle.recolour_bench.specs.Law.{StartExists, StartIsHistory, StartIsUnique, StepExists, StepKeeps, StepIsUnique, NotBoth, RefusalIsUnique, RefusalIsAlike, PresentIsRaw, PresentIsUnique, ChainsAreAccepted, ChainsAreShort, ChainsAreRaw, ChainTextsFit, RoundChainsAreAccepted, ChainsFollow, ChainIsUnique, RoundChainIsUnique, FixTakesLeast, GrowthIsTested, FibresAreTested, MostPosition};
 
 /// A colouring within the limits starts a history. All that it starts are alike.
 pub fn starts()
@@ -32,14 +32,19 @@ pub fn present_colouring()
     ensures unique { PresentIsUnique }
 {}
 
-/// Each chain of a history shows the closure: their claim is accepted. The text of the claim is
-/// within the limit of a trace. Alike histories have present chains that differ in steps alone.
+/// Each chain of a history shows the closure: their claim is accepted, and is of version 1. The text
+/// of the claim is within the limit of a trace. The colours of its stages follow one another, so that
+/// there are rounds over them; these show the same closure, by a claim of version 2. Alike histories
+/// have present chains that differ in steps alone, and the same rounds over them.
 pub fn chains()
     ensures accepted { ChainsAreAccepted }
     ensures short { ChainsAreShort }
     ensures raw { ChainsAreRaw }
     ensures texts { ChainTextsFit }
+    ensures rounds { RoundChainsAreAccepted }
+    ensures following { ChainsFollow }
     ensures unique { ChainIsUnique }
+    ensures round_chain_is_unique { RoundChainIsUnique }
 {}
 
 /// The number that `fix` gives a point is the least that no pair has.

@@ -1,5 +1,5 @@
 -- What the functions that read the words of a line know.
-use Rattle.std.proofs.Common.{◌≡◌, ℕ, suc, ◌-◌, ◌≤◌, Bool, true, false, cond, leb, List, [], ◌∷◌, length, get_or, take, drop, Some, None, IsTrue, bytes_eq, refl, sym, ap, ◌∙◌, subst, ⊎_elim, arith}
+use Rattle.std.proofs.Common.{◌≡◌, ℕ, suc, ◌-◌, ◌≤◌, Bool, true, false, cond, leb, eqb, List, [], ◌∷◌, length, get_or, take, drop, Some, None, IsTrue, bytes_eq, refl, sym, ap, ◌∙◌, subst, inl, inr, ⊎_elim, arith}
 use Rattle.std.specs.Prelude.{codes}
 use Rattle.std.specs.Borrow.{Bor}
 use Rattle.std.specs.List.{AllZip}
@@ -18,7 +18,7 @@ use Rattle.script_text.specs.declared.faults.LineFault.{LineFault}
 use Rattle.script_text.specs.declared.faults.LineFault.TheVariants.{Word, NoMemory}
 use Rattle.script_text.specs.declared.faults.ScriptWord.TheVariants.{UnknownWord, WrongCount, BadLimit}
 use Rattle.script_text.specs.declared.keywords.Keyword.{Keyword}
-use Rattle.script_text.specs.declared.keywords.Keyword.TheVariants.{Mergings, Write}
+use Rattle.script_text.specs.declared.keywords.Keyword.TheVariants.{Mergings, Trace, Write}
 use Rattle.script_text.specs.Answers.{texts, IsFaultWhere, IsFirstFault}
 use Rattle.script_text.specs.Grammar.{AsksFor, AreSome, IsLimit}
 use Rattle.script_text.specs.Keyword.{spelling, allows, has_unknown_word}
@@ -104,6 +104,13 @@ mergings_beyond (word ∷ words) d most after many form forms NoMemory h = tt
 mergings_beyond (word ∷ []) d most after many form forms (Word what) h = rw (number_of-form word.now most form, h.1, h.0) refl
 mergings_beyond (word ∷ next ∷ words) d most after many form forms (Word what) h =
     rw (number_of-form word.now most form, forms_all (texts words) after forms, h.1, h.0) refl
+
+-- `trace` alone, or with `2` behind it
+pub trace_words : (words : List (Bor (List ℕ))) (version : ℕ) → has_unknown_word Trace (texts words) ≡ false → IsTrue (allows Trace (length words))
+    → version ≡ cond (eqb (length words) 0) 1 2 → AsksFor (codes "trace" ∷ texts words) (acts.Trace version)
+trace_words [] version known count e = inl (e, refl)
+trace_words (word ∷ []) version known count e = inr (e, ap (λ w. codes "trace" ∷ w ∷ []) ((bytes_eq-Decides word.now (codes "2")).0 (not-false _ known)))
+trace_words (word ∷ next ∷ words) version known count e = absurd (omega (arith, leb-true (suc (suc (length words))) 1 count))
 
 -- `write` with a name that is one of the two
 write_asked : (word : List ℕ) (others : List (List ℕ)) (set : List ℕ) → has_unknown_word Write (word ∷ others) ≡ false → AreSome set → AllZip IsNumberForm others set

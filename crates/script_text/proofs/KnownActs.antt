@@ -1,5 +1,5 @@
 -- Which act the words of a line ask for: at most one, and one where no test of them holds.
-use Rattle.std.proofs.Common.{◌≡◌, ℕ, suc, ◌<◌, ◌≤◌, true, false, cond, not, leb, ltb, eqb, List, [], ◌∷◌, ◌++◌, length, get_or, drop, map, Some, None, bytes_eq, refl, sym, ap, ◌∙◌, subst, ⊎_elim, arith}
+use Rattle.std.proofs.Common.{◌≡◌, ℕ, suc, ◌<◌, ◌≤◌, true, false, cond, not, leb, ltb, eqb, List, [], ◌∷◌, ◌++◌, length, get_or, drop, map, Some, None, bytes_eq, refl, sym, ap, ◌∙◌, subst, inl, inr, ⊎_elim, arith}
 use Rattle.std.specs.Prelude.{codes}
 use Rattle.std.specs.List.{AllZip, list_all}
 use Rattle.std.proofs.lemmas.Bool.{false_from_ne_true, or_from, or_right, both_ways, false≢true, eqb-true, eqb-false, ltb-false, or_parts, or_cases, and_parts, not-false, leb-true, lt-leb, ne_eqb, le-ltb, le-leb}
@@ -52,7 +52,7 @@ act_with Sub others = acts.Sub (number_at others 0) (drop 1 (map value others))
 act_with Close others = acts.Close (map value others)
 act_with Good others = acts.Good
 act_with Mergings others = acts.Mergings (number_at others 0) (cond (leb (length others) 1) None (Some (map value (drop 2 others))))
-act_with Trace others = acts.Trace
+act_with Trace others = acts.Trace (cond (eqb (length others) 0) 1 2)
 act_with Write others = acts.Write (cond (bytes_eq (word_at others 0) (codes "graph6")) Graph6 Digraph6) (map value (drop 1 others))
 
 -- the words of a line that asks for an act: its keyword, and words behind it of which no test holds and which fix the act
@@ -201,7 +201,22 @@ known words (acts.Mergings most (Some after)) h =
       product = refl;
       act_is = merged word n.others most after (value-form word most h.2.1) (forms_values n.others after n.forms);
     }
-known words acts.Trace h = alone Trace words h (record { known = refl; count = refl; numbers = refl; limit = refl; name = refl }) refl
+known words (acts.Trace version) (inl h) = record {
+  keyword = Trace;
+  others = [];
+  words_are = h.1;
+  passes = record { known = refl; count = refl; numbers = refl; limit = refl; name = refl };
+  product = refl;
+  act_is = ap acts.Trace h.0;
+}
+known words (acts.Trace version) (inr h) = record {
+  keyword = Trace;
+  others = codes "2" ∷ [];
+  words_are = h.1;
+  passes = record { known = refl; count = refl; numbers = refl; limit = refl; name = refl };
+  product = refl;
+  act_is = ap acts.Trace h.0;
+}
 known words (acts.Write Graph6 set) h =
     let n = numbers_behind (codes "write" ∷ codes "graph6" ∷ []) set words h.1 in
     let len = forms_length n.others set n.forms in
@@ -332,7 +347,9 @@ asked Mergings (word ∷ next ∷ after ∷ words) p =
     subst (λ w. AsksFor (codes "mergings" ∷ word ∷ w ∷ after ∷ words) (act_with Mergings (word ∷ w ∷ after ∷ words))) (sym is_after)
     (subst (λ act. AsksFor (codes "mergings" ∷ word ∷ codes "after" ∷ after ∷ words) act) (merged word (after ∷ words) (value word) (map value (after ∷ words)) refl refl)
     (limit_passed word (next ∷ after ∷ words) forms.0 p.limit, omega arith, (word, form-is_number word forms.0, (refl, (refl, (refl, all_forms (after ∷ words) forms.1))))))
-asked Trace others p = ap (λ ws. codes "trace" ∷ ws) (none_left others p.count)
+asked Trace [] p = inl (refl, refl)
+asked Trace (word ∷ []) p = inr (refl, ap (λ w. codes "trace" ∷ w ∷ []) ((bytes_eq-Decides word (codes "2")).0 (not-false _ p.known)))
+asked Trace (word ∷ next ∷ words) p = absurd (omega (arith, leb-true (suc (suc (length words))) 1 p.count))
 asked Write [] p = absurd (false≢true p.count)
 asked Write (form ∷ words) p =
     let many : 2 ≤ suc (length words) = leb-true 2 (suc (length words)) p.count in

@@ -1,5 +1,5 @@
 -- A text is a script or has a fault, and one of these alone.
-use Rattle.std.proofs.Common.{◌≡◌, ℕ, suc, ◌+◌, ◌^◌, ◌<◌, ◌≤◌, Bool, true, false, cond, List, [], ◌∷◌, ◌++◌, length, take, drop, get_or, Option, Some, None, refl, sym, ap, ◌∙◌, subst, arith}
+use Rattle.std.proofs.Common.{◌≡◌, ℕ, suc, ◌+◌, ◌^◌, ◌<◌, ◌≤◌, Bool, true, false, cond, List, [], ◌∷◌, ◌++◌, length, take, drop, get_or, Option, Some, None, refl, sym, ap, ◌∙◌, subst, inl, inr, arith}
 use Rattle.std.specs.Prelude.{All, slice_get}
 use Rattle.std.specs.List.{AllZip}
 use Rattle.std.proofs.Common.{length-drop, add-one}
@@ -117,6 +117,8 @@ all_read text place script so_far e =
 keeps_limit : (words : List (List ℕ)) (act : Act) → AsksFor words act → KeepsLimit act
 keeps_limit words (acts.Mergings most None) h = h.0
 keeps_limit words (acts.Mergings most (Some after)) h = h.0
+keeps_limit words (acts.Trace version) (inl h) = inl h.0
+keeps_limit words (acts.Trace version) (inr h) = inr h.0
 keeps_limit words _ h = tt
 
 -- and so does each line of a script

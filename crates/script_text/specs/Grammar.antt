@@ -1,5 +1,5 @@
 -- The language of scripts: which words ask for which act. (It is this project's own.)
-use Rattle.std.specs.Prelude.{◌≡◌, ◌≢◌, ℕ, ◌<◌, ◌≤◌, List, [], ◌∷◌, length, codes, Some, None}
+use Rattle.std.specs.Prelude.{◌≡◌, ◌≢◌, ℕ, ◌<◌, ◌≤◌, ◌⊎◌, List, [], ◌∷◌, length, codes, Some, None}
 use Rattle.std.specs.List.{AllZip}
 use Rattle.text_lines.specs.Number.{IsNumberForm}
 use Rattle.script_text.specs.declared.acts.Act.{Act}
@@ -20,6 +20,10 @@ AreSome numbers = 0 < length numbers
 -- how many fusions one line may ask for
 abbrev pub IsLimit : ℕ → Type 0
 IsLimit most = (1 ≤ most) × (most ≤ MOST_MERGINGS)
+
+-- the versions of traces that a line may ask for
+abbrev pub IsTraceVersion : ℕ → Type 0
+IsTraceVersion version = (version ≡ 1) ⊎ (version ≡ 2)
 
 -- the words of a line ask for the act
 abbrev pub AsksFor : List (List ℕ) → Act → Type 0
@@ -47,6 +51,8 @@ AsksFor words Good = words ≡ codes "good" ∷ []
 AsksFor words (Mergings most None) = IsLimit most × Spells (codes "mergings" ∷ []) (most ∷ []) words
 AsksFor words (Mergings most (Some after)) = IsLimit most × AreSome after
     × ((word : List ℕ) × IsNumberForm word most × Spells (codes "mergings" ∷ word ∷ codes "after" ∷ []) after words)
-AsksFor words Trace = words ≡ codes "trace" ∷ []
+AsksFor words (Trace version) =
+    ((version ≡ 1) × (words ≡ codes "trace" ∷ []))
+    ⊎ ((version ≡ 2) × (words ≡ codes "trace" ∷ codes "2" ∷ []))
 AsksFor words (Write Graph6 set) = AreSome set × Spells (codes "write" ∷ codes "graph6" ∷ []) set words
 AsksFor words (Write Digraph6 set) = AreSome set × Spells (codes "write" ∷ codes "digraph6" ∷ []) set words

@@ -54,12 +54,14 @@ allows Quotient count = nat_le 1 count
 allows Close count = nat_le 1 count
 allows Sub count = nat_le 2 count
 allows Mergings count = (count == 1) || nat_le 3 count
+allows Trace count = nat_le count 1
 allows Write count = nat_le 2 count
 allows _ count = count == 0
 
--- the words that follow have another word in the place of `after`, or of the name of a graph format
+-- the words that follow have another word in the place of `after`, of the `2` of a trace, or of the name of a graph format
 abbrev pub has_unknown_word : Keyword → List (List ℕ) → Bool
 has_unknown_word Mergings (most ∷ word ∷ words) = not (bytes_eq word (codes "after"))
+has_unknown_word Trace (word ∷ words) = not (bytes_eq word (codes "2"))
 has_unknown_word Write (word ∷ words) = not (bytes_eq word (codes "graph6") || bytes_eq word (codes "digraph6"))
 has_unknown_word _ _ = false
 
@@ -68,6 +70,7 @@ abbrev pub number_words : Keyword → List (List ℕ) → List (List ℕ)
 number_words Direct words = []
 number_words Wreath words = []
 number_words Mergings words = take 1 words ++ drop 2 words
+number_words Trace words = []
 number_words Write words = drop 1 words
 number_words _ words = words
 

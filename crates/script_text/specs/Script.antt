@@ -4,11 +4,11 @@ use Rattle.std.specs.List.{AllZip, AllByRecursion, list_all, enumerate_from}
 use Rattle.text_lines.specs.Lines.{lines_of}
 use Rattle.text_lines.specs.Part.{Part}
 use Rattle.script_text.specs.declared.acts.Act.{Act}
-use Rattle.script_text.specs.declared.acts.Act.TheVariants.{Direct, Wreath, Mergings}
+use Rattle.script_text.specs.declared.acts.Act.TheVariants.{Direct, Wreath, Mergings, Trace}
 use Rattle.script_text.specs.declared.acts.Line.{Line}
 use Rattle.script_text.specs.declared.faults.ScriptWord.{ScriptWord}
 use Rattle.script_text.specs.declared.limits.TheConstants.{MOST_LINES, MOST_PRODUCTS}
-use Rattle.script_text.specs.Grammar.{AsksFor, IsLimit}
+use Rattle.script_text.specs.Grammar.{AsksFor, IsLimit, IsTraceVersion}
 use Rattle.script_text.specs.LineFaults.{word_texts, asks, is_script_byte, script_fault}
 
 -- the lines that are neither blank nor comments, each with its number and its words
@@ -41,9 +41,10 @@ pub record AreScript (lines : List Part) (script : List Line) : Type 0 where
 pub record IsScript (text : List ℕ) (script : List Line) : Type 0 where
   pub lines : AreScript (lines_of text) script
 
--- how many fusions an act may ask for
+-- how many fusions an act may ask for, and traces of which versions
 abbrev pub KeepsLimit : Act → Type 0
 KeepsLimit (Mergings most after) = IsLimit most
+KeepsLimit (Trace version) = IsTraceVersion version
 KeepsLimit _ = ⊤
 
 -- a text is at most one script

@@ -1,6 +1,6 @@
 //! From the words of a line to what they ask for.
 
-ghost use Rattle.std.specs.Prelude.{◌≡◌, ◌≢◌, ◌<◌, ◌^◌, ◌∷◌, All, IsTrue, IfOk, IfErr, false, codes, bytes_eq, length, if◌then◌else◌};
+ghost use Rattle.std.specs.Prelude.{◌≡◌, ◌≢◌, ◌==◌, ◌<◌, ◌^◌, ◌∷◌, All, IsTrue, IfOk, IfErr, false, codes, bytes_eq, length, if◌then◌else◌};
 ghost use Rattle.std.specs.Str.{IsAscii};
 ghost use Rattle.script_text.specs.declared.acts.Act.TheVariants.{Mergings};
 ghost use Rattle.script_text.specs.declared.acts.GraphForm.TheVariants.{Graph6, Digraph6};
@@ -95,7 +95,7 @@ fn keyword_act(alloc: Global, keyword: Keyword, words: &[&[u8]]) -> Result<Act, 
         }),
         Keyword::Good => Ok(Act::Good),
         Keyword::Mergings => mergings(alloc, words),
-        Keyword::Trace => Ok(Act::Trace),
+        Keyword::Trace => Ok(trace(words)),
         Keyword::Write => write(alloc, words),
     }
 }
@@ -137,6 +137,24 @@ fn fusions(most: u32, after: Option<Numbers>) -> Result<Act, LineFault>
         return Err(LineFault::Word(ScriptWord::BadLimit));
     }
     Ok(Act::Mergings { most, after })
+}
+
+// What `trace` with these words behind it asks for.
+fn trace(words: &[&[u8]]) -> Act
+    requires known { has_unknown_word Keyword.Trace (texts words.now) ≡ false }
+    requires count { IsTrue (allows Keyword.Trace (length words.now)) }
+    ensures { AsksFor (spelling Keyword.Trace ∷ texts words.now) result }
+{
+    Act::Trace {
+        version: trace_version(words),
+    }
+}
+
+// The version of the trace where these words stand behind `trace`: 1 where there are none.
+fn trace_version(words: &[&[u8]]) -> u32
+    ensures { result ≡ (if length words.now == 0 then 1 else 2) }
+{
+    if words.is_empty() { 1 } else { 2 }
 }
 
 // What `write` with these words behind it asks for.

@@ -102,8 +102,8 @@ pub enum Act {
     Good,
     /// Asks for at most `most` fusions, from the first on or after a growth string.
     Mergings { most: u32, after: Option<Numbers> },
-    /// Asks for the trace of the present colouring.
-    Trace,
+    /// Asks for the trace of the present colouring, in the format of this version, 1 or 2.
+    Trace { version: u32 },
     /// Asks for the graph of a set of classes.
     Write { form: GraphForm, set: Numbers },
 }

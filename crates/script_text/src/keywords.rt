@@ -116,16 +116,19 @@ pub(crate) fn allows(keyword: Keyword, count: usize) -> bool
         Keyword::Fuse | Keyword::Array | Keyword::Quotient | Keyword::Close => count >= 1,
         Keyword::Sub | Keyword::Write => count >= 2,
         Keyword::Mergings => count == 1 || count >= 3,
+        Keyword::Trace => count <= 1,
         _ => count == 0,
     }
 }
 
-// Whether another word stands in the place of `after`, or of the name of a graph format.
+// Whether another word stands in the place of `after`, of the `2` of a trace, or of the name of a
+// graph format.
 pub(crate) fn has_unknown_word(keyword: Keyword, words: &[&[u8]]) -> bool
     ensures { result ≡ has_unknown_word keyword (texts words.now) }
 {
     match (keyword, words) {
         (Keyword::Mergings, [_, word, ..]) => *word != b"after".as_slice(),
+        (Keyword::Trace, [word, ..]) => *word != b"2".as_slice(),
         (Keyword::Write, [word, ..]) => *word != b"graph6".as_slice()
             && *word != b"digraph6".as_slice(),
         _ => false,

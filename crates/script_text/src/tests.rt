@@ -28,7 +28,7 @@ fn name_of(act: &Act) -> &[u8] {
         Act::Good => b"good",
         Act::Mergings { after: None, .. } => b"mergings",
         Act::Mergings { .. } => b"mergings after",
-        Act::Trace => b"trace",
+        Act::Trace { .. } => b"trace",
         Act::Write {
             form: GraphForm::Graph6,
             ..
@@ -57,6 +57,7 @@ fn has_numbers(act: &Act, numbers: &[u32]) -> bool {
             Some(after) => is_joined(numbers, *most, after.as_slice()),
             None => numbers == [*most].as_slice(),
         },
+        Act::Trace { version } => numbers == [*version].as_slice(),
         _ => numbers.is_empty(),
     }
 }
@@ -79,9 +80,9 @@ const SCRIPT: &[u8] =
     b"set 0 1 2\n\tboth  3\t4 65536 \r\n# a comment\n\n \t\nfix 4294967295\njoin 9 1\nadopt\n\
     fuse 0 1 1 2\ndirect #f\nwreath a-b\n  # set 1\nundo\nredo\nshow\nraw\nclasses\nconstants\ntests\n\
     array 1\nclosed\nquotient 0 3\nsub 8 0 2\nclose 0 1 2 2\ngood\nmergings 10000\n\
-    mergings 2 after 0 1 1 2\ntrace\nwrite graph6 1\nwrite digraph6 2 1 1\r";
+    mergings 2 after 0 1 1 2\ntrace\nwrite graph6 1\nwrite digraph6 2 1 1\ntrace 2\n\ttrace\t2 \r";
 
-const LINES: [(u32, &[u8]); 26] = [
+const LINES: [(u32, &[u8]); 28] = [
     (1, b"set"),
     (2, b"both"),
     (6, b"fix"),
@@ -108,6 +109,8 @@ const LINES: [(u32, &[u8]); 26] = [
     (28, b"trace"),
     (29, b"write graph6"),
     (30, b"write digraph6"),
+    (31, b"trace"),
+    (32, b"trace"),
 ];
 
 // The numbers on the line with this number.
@@ -118,12 +121,13 @@ fn numbers_on(line: u32) -> &'static [u32] {
         6 => &[4_294_967_295],
         7 => &[9, 1],
         9 => &[0, 1, 1, 2],
-        20 | 29 => &[1],
+        20 | 28 | 29 => &[1],
         22 => &[0, 3],
         23 => &[8, 0, 2],
         24 => &[0, 1, 2, 2],
         26 => &[10_000],
         27 => &[2, 0, 1, 1, 2],
+        31 | 32 => &[2],
         30 => &[2, 1, 1],
         _ => &[],
     }
@@ -143,7 +147,7 @@ fn reads_each_act(rt: HostRuntime) -> Result<(), Fail> {
 
 #[test]
 fn names_the_first_fault(rt: HostRuntime) {
-    let cases: [(&[u8], u32, ScriptWord); 22] = [
+    let cases: [(&[u8], u32, ScriptWord); 28] = [
         (b"shwo\n", 1, ScriptWord::UnknownWord),
         (b"show\nmergings 0\n", 2, ScriptWord::BadLimit),
         (b"mergings 4294967295", 1, ScriptWord::BadLimit),
@@ -154,6 +158,12 @@ fn names_the_first_fault(rt: HostRuntime) {
         (b"write", 1, ScriptWord::WrongCount),
         (b"write 0", 1, ScriptWord::UnknownWord),
         (b"write graph6", 1, ScriptWord::WrongCount),
+        (b"trace 1", 1, ScriptWord::UnknownWord),
+        (b"trace 02", 1, ScriptWord::UnknownWord),
+        (b"trace x", 1, ScriptWord::UnknownWord),
+        (b"trace 1 1", 1, ScriptWord::UnknownWord),
+        (b"trace 2 2", 1, ScriptWord::WrongCount),
+        (b"trace 2\ntrace 2 x", 2, ScriptWord::WrongCount),
         (b"direct -", 1, ScriptWord::BadName),
         (b"wreath", 1, ScriptWord::WrongCount),
         (b"set 1 2", 1, ScriptWord::WrongCount),

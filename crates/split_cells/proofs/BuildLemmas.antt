@@ -1,51 +1,12 @@
 -- Partings from the class of each number.
-use Rattle.std.proofs.Common.{◌≡◌, ◌≢◌, ℕ, ◌+◌, ◌-◌, ◌*◌, ◌/◌, ◌%◌, ◌^◌, ◌<◌, ◌≤◌, List, [], ◌∷◌, ◌++◌, length, get_or, map, replicate, All, ◌⊎◌, inl, inr, ⊎_elim, sym, ap, ◌∙◌, arith}
-use Rattle.std.specs.List.Sorted.{IsPermutation, IsNonDecreasing}
+use Rattle.std.proofs.Common.{◌≡◌, ◌≢◌, ℕ, ◌+◌, ◌-◌, ◌*◌, ◌/◌, ◌%◌, ◌^◌, ◌<◌, ◌≤◌, List, [], ◌∷◌, ◌++◌, length, get_or, map, replicate, ◌⊎◌, inl, inr, ⊎_elim, sym, ap, ◌∙◌, arith}
 use Rattle.std.proofs.lemmas.Bool.{cases_eq, cases_lt}
-use Rattle.std.proofs.lemmas.List.{length-map, get_or_default, ext_get_or, get_or-replicate, length-replicate}
-use Rattle.std.proofs.lemmas.List.FromFn.{length-range_with_len, get_or-map-range_with_len, map-range_with_len_more}
-use Rattle.std.proofs.lemmas.List.Sorted.{All-permutation, Contains-permutation}
-use Rattle.std.proofs.lemmas.List.Elements.{Contains-get_or}
-use Rattle.std.proofs.lemmas.Nat.{div-mul-add, mod-mul-add}
+use Rattle.std.proofs.lemmas.List.{ext_get_or, get_or-replicate, length-replicate}
 use Rattle.pair_colours.specs.Colouring.{points}
-use Rattle.pair_colours.specs.SideCodes.{code_of_pair}
-use Rattle.pair_colours.proofs.Places.{place_below}
-use Rattle.split_cells.specs.Grids.{IsTurned, IsUsed}
-use Rattle.split_cells.specs.Sorted.{IsNumbered, IsSortedCodes}
-
--- the codes, number by number
-abbrev pub code_at : List ℕ → ℕ → ℕ
-code_at class p = code_of_pair (get_or class p 0) p
-
-pub codes_more : (f : ℕ → ℕ) (p code : ℕ) (old new : List ℕ) → old ≡ map f (points p) → code ≡ f p → new ≡ old ++ code ∷ [] → new ≡ map f (points (p + 1))
-codes_more f p code old new e g s = s ∙ (λ i. e i ++ g i ∷ []) ∙ sym (map-range_with_len_more f 0 p p (omega arith))
-
-pub IsSortedCodes-from : (class codes sorted : List ℕ) → length class < 2 ^ 31 → codes ≡ map (code_at class) (points (length class)) → IsPermutation codes sorted → IsNonDecreasing sorted → IsSortedCodes class sorted
-IsSortedCodes-from class codes sorted small c moved up = record {
-  rising = λ u w h l. up u w 0 (omega (arith, h)) l;
-  inside = λ u l. (each_sorted u 0 l).0;
-  is = λ u l. (each_sorted u 0 l).1;
-  complete = λ p l.
-      let low : p < length codes = omega (arith, l, size) in
-      let a = Contains-permutation codes sorted (get_or codes p 0) moved (Contains-get_or codes p 0 low) in
-      let at : get_or sorted a.0 0 ≡ code_at class p = get_or_default sorted a.0 0 (get_or codes p 0) a.1 ∙ a.2 ∙ code_is p 0 l in
-      (a.0, a.1, ap (λ z. z % 2 ^ 32) at ∙ mod-mul-add (get_or class p 0) (2 ^ 32) p (omega (arith, l, small)));
-}
-  where
-    size : length codes ≡ length class
-    size = ap length c ∙ length-map (points (length class)) (code_at class) ∙ length-range_with_len 0 (length class)
-
-    code_is : (p d : ℕ) → p < length class → get_or codes p d ≡ code_at class p
-    code_is p d l = ap (λ xs. get_or xs p d) c ∙ get_or-map-range_with_len (code_at class) 0 (length class) p p d l (omega arith)
-
-    each_sorted : All (λ z. (z % 2 ^ 32 < length class) × (z / 2 ^ 32 ≡ get_or class (z % 2 ^ 32) 0)) sorted
-    each_sorted =
-        All-permutation (λ z. (z % 2 ^ 32 < length class) × (z / 2 ^ 32 ≡ get_or class (z % 2 ^ 32) 0)) codes sorted moved (λ p d l.
-        let low : p < length class = omega (arith, l, size) in
-        let e = code_is p d low in
-        let m : get_or codes p d % 2 ^ 32 ≡ p = ap (λ z. z % 2 ^ 32) e ∙ mod-mul-add (get_or class p 0) (2 ^ 32) p (omega (arith, low, small)) in
-        let v : get_or codes p d / 2 ^ 32 ≡ get_or class p 0 = ap (λ z. z / 2 ^ 32) e ∙ div-mul-add (get_or class p 0) (2 ^ 32) p (omega (arith, low, small)) in
-        (omega (arith, m, low), v ∙ ap (λ z. get_or class z 0) (sym m)))
+use Rattle.wl_round.specs.Sorting.{AreSorted}
+use Rattle.wl_round.proofs.PlaceLists.{written_more, written_length, written_at}
+use Rattle.split_cells.specs.Grids.{IsUsed}
+use Rattle.split_cells.specs.Sorted.{IsNumbered}
 
 -- the first t codes are in their classes
 pub record IsArrangedTo (class0 codes : List ℕ) (t : ℕ) (class : List ℕ) (rank : ℕ) : Type 0 where
@@ -57,7 +18,7 @@ pub record IsArrangedTo (class0 codes : List ℕ) (t : ℕ) (class : List ℕ) (
   pub some : 0 < rank
   pub used : IsUsed class rank
 
-module _ (class0 codes : List ℕ) (numbered : IsNumbered class0) (sorted : IsSortedCodes class0 codes) where
+module _ (class0 codes : List ℕ) (numbered : IsNumbered class0) (sorted : AreSorted class0 codes) where
   pub IsArrangedTo-start : (class : List ℕ) → 0 < length class0 → class ≡ replicate (length class0) 0 → IsArrangedTo class0 codes 0 class 1
   IsArrangedTo-start class some c = record {
     len = size;
@@ -170,30 +131,9 @@ module _ (class0 codes : List ℕ) (numbered : IsNumbered class0) (sorted : IsSo
       let u = sorted.complete p (omega (arith, l, h.len)) in
       ap (λ z. get_or class z 0) (sym u.2) ∙ h.done u.0 (omega (arith, u.1, e)) ∙ ap (λ z. get_or class0 z 0) u.2)
 
--- the transposed matrix, place by place
-pub IsTurned-from : (size : ℕ) (class turned : List ℕ) → turned ≡ map (λ p. get_or class (p % size * size + p / size) 0) (points (size * size)) → IsTurned size class turned
-IsTurned-from size class turned e = record {
-  len = ap length e ∙ length-map (points (size * size)) (λ p. get_or class (p % size * size + p / size) 0) ∙ length-range_with_len 0 (size * size);
-  is = λ x y hx hy.
-      let p = x * size + y in
-      ap (λ l. get_or l p 0) e
-      ∙ get_or-map-range_with_len (λ p. get_or class (p % size * size + p / size) 0) 0 (size * size) p p 0 (place_below size x y hx hy) (omega arith)
-      ∙ (λ i. get_or class (mod-mul-add x size y hy i * size + div-mul-add x size y hy i) 0);
-}
-
--- what stands at a place of the transposed matrix
-abbrev pub turned_to : ℕ → List ℕ → ℕ → ℕ
-turned_to size class p = get_or class (p % size * size + p / size) 0
-
-pub turned_to-at : (size : ℕ) (class : List ℕ) (x y : ℕ) → y < size → get_or class (y * size + x) 0 ≡ turned_to size class (x * size + y)
-turned_to-at size class x y hy = sym (λ i. get_or class (mod-mul-add x size y hy i * size + div-mul-add x size y hy i) 0)
-
 -- the points of the pairs, pair by pair
 pub points_more : (f : ℕ → ℕ) (n x y v : ℕ) (old new : List ℕ) → y < n → old ≡ map f (points (x * n + y)) → v ≡ f (x * n + y) → new ≡ old ++ v ∷ [] → new ≡ map f (points (x * n + (y + 1)))
-points_more f n x y v old new hy e g s = codes_more f (x * n + y) v old new e g s ∙ ap (λ m. map f (points m)) (omega arith)
+points_more f n x y v old new hy e g s = written_more f (x * n + y) v old new e g s ∙ ap (λ m. map f (points m)) (omega arith)
 
 pub entry_at : (f : ℕ → ℕ) (n p : ℕ) (xs : List ℕ) → xs ≡ map f (points n) → p < n → (p < length xs) × (get_or xs p 0 ≡ f p)
-entry_at f n p xs e l = (
-  omega (arith, ap length e, length-map (points n) f, length-range_with_len 0 n, l),
-  ap (λ ys. get_or ys p 0) e ∙ get_or-map-range_with_len f 0 n p p 0 l (omega arith),
-)
+entry_at f n p xs e l = (omega (arith, written_length f n xs e, l), written_at f n p xs e l)

@@ -1,29 +1,33 @@
 -- The partition that `Cells` keeps, and what a step makes of it.
-use Rattle.std.proofs.Common.{◌≡◌, ◌≢◌, ◌↔◌, ◌==◌, ◌&&◌, nat_lt, ℕ, ◌+◌, ◌-◌, ◌*◌, ◌/◌, ◌%◌, ◌^◌, ◌<◌, ◌≤◌, Bool, true, false, if◌then◌else◌, List, length, get_or, map, filter, count_by, replicate, All, ⊎_elim, refl, sym, ap, subst, ◌∙◌, arith, zero, suc}
-use Rattle.std.proofs.lemmas.Bool.{cases_eq, cases_lt, eq-eqb, eqb-true, ne_eqb, lt-ltb, le-ltb}
+use Rattle.std.proofs.Common.{◌≡◌, ◌≢◌, ◌↔◌, ◌==◌, ◌&&◌, nat_lt, ℕ, ◌+◌, ◌-◌, ◌*◌, ◌/◌, ◌%◌, ◌^◌, ◌<◌, ◌≤◌, Bool, true, false, if◌then◌else◌, List, length, get_or, map, filter, count_by, replicate, All, ⊎_elim, refl, sym, ap, ◌∙◌, arith, zero, suc}
+use Rattle.std.proofs.lemmas.Bool.{cases_Bool, cases_eq, cases_lt, eq-eqb, eqb-true, ne_eqb, lt-ltb, le-ltb}
 use Rattle.std.proofs.lemmas.List.{length-map, ext_get_or, length-replicate, get_or-replicate, get_or_past}
 use Rattle.std.proofs.lemmas.List.FromFn.{length-range_with_len, get_or-map-range_with_len}
 use Rattle.std.proofs.lemmas.Nat.{div-add-mod', div-mul-add, mod-mul-add, mul-le}
 use Rattle.pair_colours.specs.declared.coloured_pairs.TheConstants.{MOST_POINTS}
 use Rattle.pair_colours.specs.Colouring.{PairColouring, IsColouring, colour_at, points}
-use Rattle.pair_colours.specs.Naming.{walk, first_met, named_of, rank_of}
+use Rattle.pair_colours.specs.Naming.{walk, first_met, rank_of}
 use Rattle.pair_colours.proofs.Counts.{unit_of, count_by-map, count_by_points}
+use Rattle.pair_colours.proofs.Exists.{IsColouring-by_pairs}
 use Rattle.pair_colours.proofs.ListLemmas.{Each-weaker, map_agree}
 use Rattle.pair_colours.proofs.Names.{InSquare, Each-walk}
 use Rattle.pair_colours.proofs.Places.{place_below, row_below, column_below}
 use Rattle.trace_text.specs.declared.step_list.Step.{Step}
-use Rattle.trace_text.specs.declared.step_list.Step.TheVariants.{Diag, Flip, Tri}
+use Rattle.trace_text.specs.declared.step_list.Step.TheVariants.{Diag, Flip, Tri, Round}
 use Rattle.trace_text.specs.Partition.{IsPartition}
-use Rattle.trace_text.specs.Split.{HasParts, numbers_of, split_of}
+use Rattle.trace_text.specs.Split.{HasParts, has_smaller_key, key_of, later_keys, numbers_of, split_of}
+use Rattle.trace_text.specs.Versions.{HasStep}
 use Rattle.trace_text.specs.Parts.{keys_in, part_number, class_parted_by}
 use Rattle.trace_text.proofs.LawProofs.{parts_one_class, parts_two_keys}
-use Rattle.trace_text.proofs.Partitions.{UsesBelow, rank_from_used, IsPartition-from_used, IsPartition-named_of}
+use Rattle.trace_text.proofs.Parting.{moves, parted_kept, place_below_keys}
+use Rattle.trace_text.proofs.Partitions.{UsesBelow, rank_from_used, IsPartition-from_used}
 use Rattle.split_cells.specs.Segments.{IsMembers}
 use Rattle.split_cells.specs.Grids.{IsUsed, grid}
 use Rattle.split_cells.specs.Keys.{IsBlank, class_of, key_inside, key_at, counts_in}
 use Rattle.split_cells.specs.Sorted.{IsNumbered}
-use Rattle.split_cells.proofs.PointCounts.{count_one_more, count_none}
-use Rattle.split_cells.proofs.PartLemmas.{Each-passed, below_idle}
+use Rattle.wl_round.proofs.PointCounts.{count_one_more, count_none}
+use Rattle.split_cells.proofs.PartLemmas.{Each-passed}
+use Rattle.split_cells.proofs.ReadOut.{same_at_pairs}
 
 -- the classes of a grid with the numbers below r in use
 module _ (size : ℕ) (class : List ℕ) (r : ℕ) (some : 1 ≤ size) (len : length class ≡ size * size) (below : (p : ℕ) → p < length class → get_or class p 0 < r) (used : IsUsed class r) where
@@ -54,16 +58,18 @@ module _ (size : ℕ) (class : List ℕ) (r : ℕ) (some : 1 ≤ size) (len : le
   pub IsPartition-grid : IsPartition P
   IsPartition-grid = IsPartition-from_used P r IsColouring-grid UsesBelow-grid
 
--- a step splits its class by its key
-split_by_key : (P : PairColouring) (s : Step) → IsColouring P → split_of P s ≡ class_parted_by P (class_of s) (key_inside P s)
-split_by_key P (Diag k) a = parts_one_class P k (key_inside P (Diag k)) a
-split_by_key P (Flip k other) a = parts_one_class P k (key_inside P (Flip k other)) a
-split_by_key P (Tri k left right) a = parts_one_class P k (key_inside P (Tri k left right)) a
+-- a step on one class splits it by its key
+split_by_key : (P : PairColouring) (s : Step) → HasStep 1 s → IsColouring P → split_of P s ≡ class_parted_by P (class_of s) (key_inside P s)
+split_by_key P (Diag k) one a = parts_one_class P k (key_inside P (Diag k)) a
+split_by_key P (Flip k other) one a = parts_one_class P k (key_inside P (Flip k other)) a
+split_by_key P (Tri k left right) one a = parts_one_class P k (key_inside P (Tri k left right)) a
+split_by_key P Round one a = absurd (omega (arith, one))
 
-pub parts_from_keys : (P : PairColouring) (s : Step) → HasParts P s ↔ (2 ≤ length (keys_in P (class_of s) (key_inside P s)))
-parts_from_keys P (Diag k) = parts_two_keys P k (key_inside P (Diag k))
-parts_from_keys P (Flip k other) = parts_two_keys P k (key_inside P (Flip k other))
-parts_from_keys P (Tri k left right) = parts_two_keys P k (key_inside P (Tri k left right))
+pub parts_from_keys : (P : PairColouring) (s : Step) → HasStep 1 s → HasParts P s ↔ (2 ≤ length (keys_in P (class_of s) (key_inside P s)))
+parts_from_keys P (Diag k) one = parts_two_keys P k (key_inside P (Diag k))
+parts_from_keys P (Flip k other) one = parts_two_keys P k (key_inside P (Flip k other))
+parts_from_keys P (Tri k left right) one = parts_two_keys P k (key_inside P (Tri k left right))
+parts_from_keys P Round one = absurd (omega (arith, one))
 
 -- the counts of a list that has the key of each pair of the class are the keys
 pub keys_of_counts : (size : ℕ) (class counts : List ℕ) (s : Step) → length class ≡ size * size
@@ -93,18 +99,18 @@ keys_of_counts size class counts s len inside =
 abbrev pub keys_before : PairColouring → Step → ℕ → ℕ
 keys_before P s key = count_by (λ other. nat_lt other key) (keys_in P (class_of s) (key_inside P s))
 
--- what a step makes of a partition, place by place
-pub split_by_places : (P : PairColouring) (s : Step) (new : List ℕ) → IsColouring P → length new ≡ P.size * P.size
+-- what a step on one class makes of a partition, place by place
+pub split_by_places : (P : PairColouring) (s : Step) (new : List ℕ) → HasStep 1 s → IsColouring P → length new ≡ P.size * P.size
     → ((p : ℕ) → p < P.size * P.size → get_or P.colours p 0 ≢ class_of s → get_or new p 0 ≡ get_or P.colours p 0)
     → ((p : ℕ) → p < P.size * P.size → get_or P.colours p 0 ≡ class_of s → get_or new p 0 ≡ part_number P (class_of s) (keys_before P s (key_at P s p)))
     → grid P.size new ≡ split_of P s
-split_by_places P s new a len others parts =
+split_by_places P s new one a len others parts =
     ap (grid P.size) (ext_get_or 0 new (map after (points (P.size * P.size)))
     (len ∙ sym (length-range_with_len 0 (P.size * P.size)) ∙ sym (length-map (points (P.size * P.size)) after))
     (λ p l.
     let low : p < P.size * P.size = omega (arith, l, len) in
     at p low ∙ sym (get_or-map-range_with_len after 0 (P.size * P.size) p p 0 low (omega arith))))
-    ∙ sym (split_by_key P s a)
+    ∙ sym (split_by_key P s one a)
   where
     after : ℕ → ℕ
     after p =
@@ -123,27 +129,13 @@ split_by_places P s new a len others parts =
         (cases_eq (get_or P.colours p 0) (class_of s))
 
 -- a step without parts changes nothing
-module _ (P : PairColouring) (s : Step) (a : IsColouring P) where
-  abbrev counts : List ℕ
-  counts = map (key_at P s) (points (P.size * P.size))
-
-  count_is : (p : ℕ) → p < P.size * P.size → get_or counts p 0 ≡ key_at P s p
-  count_is p l = get_or-map-range_with_len (key_at P s) 0 (P.size * P.size) p p 0 l (omega arith)
-
-  same_keys : counts_in P.size P.colours counts (class_of s) ≡ keys_in P (class_of s) (key_inside P s)
-  same_keys = keys_of_counts P.size P.colours counts s a.has_pairs (λ p l e. count_is p (omega (arith, l, a.has_pairs)))
-
-  few_keys : ¬ HasParts P s → length (counts_in P.size P.colours counts (class_of s)) < 2
-  few_keys idle =
-      ⊎_elim (λ l. l) (λ g. absurd (idle ((parts_from_keys P s).1 (subst (λ l. 2 ≤ length l) same_keys g)))) (cases_lt (length (counts_in P.size P.colours counts (class_of s))) 2)
-
-  pub split_idle : ¬ HasParts P s → P ≡ split_of P s
-  split_idle idle =
-      split_by_places P s P.colours a a.has_pairs (λ p l ne. refl) (λ p l e.
-      let none : keys_before P s (key_at P s p) ≡ 0 =
-      (λ i. count_by (λ other. nat_lt other (sym (count_is p l) i)) (sym same_keys i))
-      ∙ below_idle P.size P.colours a.has_pairs counts (class_of s) (get_or counts p 0) (record { number = p; inside = omega (arith, l, a.has_pairs); member = e; is = refl }) (few_keys idle) in
-      e ∙ sym (ap (λ b. if b then class_of s else rank_of P + (keys_before P s (key_at P s p) - 1)) (eq-eqb _ 0 none)))
+pub split_idle : (P : PairColouring) (s : Step) → IsColouring P → ¬ HasParts P s → P ≡ split_of P s
+split_idle P s a idle =
+    let key = key_of P s in
+    sym (same_at_pairs P (split_of P s) a refl
+    (IsColouring-by_pairs P.size (λ x y. if has_smaller_key P key x y then rank_of P + count_by (λ other. nat_lt other (key x y)) (later_keys P key) else colour_at P x y) a.has_points).has_pairs
+    (λ x y hx hy. parted_kept P key x y hx hy
+    (⊎_elim (λ t. absurd (idle (omega (arith, place_below_keys P key (moves P key) x y hx hy t)))) (λ f. f) (cases_Bool (has_smaller_key P key x y)))))
 
 -- how many pairs a class has
 module _ {class : List ℕ} {k : ℕ} {at : ℕ → ℕ} {members : List ℕ} (m : IsMembers class k at members) where
@@ -192,15 +184,12 @@ module _ {class : List ℕ} {k : ℕ} {at : ℕ → ℕ} {members : List ℕ} (m
           (sym (length-range_with_len 0 (length class)) ∙ sym (length-map (points (length class)) (λ p. get_or class p 0)))
           (λ p l. sym (get_or-map-range_with_len (λ p. get_or class p 0) 0 (length class) p p 0 l (omega arith)))
 
--- the class of a step is among those that it names
-pub names_class : (r : ℕ) (s : Step) → All (λ number. number < r) (numbers_of s) → class_of s < r
-names_class r (Diag k) h = h 0 0 (omega arith)
-names_class r (Flip k other) h = h 0 0 (omega arith)
-names_class r (Tri k left right) h = h 0 0 (omega arith)
-
--- a colouring that is canonically named is a partition
-pub IsPartition-named : (K : PairColouring) → IsColouring K → named_of K ≡ K → IsPartition K
-IsPartition-named K a named = subst IsPartition named (IsPartition-named_of K a)
+-- the class of a step on one class is among those that it names
+pub names_class : (r : ℕ) (s : Step) → HasStep 1 s → All (λ number. number < r) (numbers_of s) → class_of s < r
+names_class r (Diag k) one h = h 0 0 (omega arith)
+names_class r (Flip k other) one h = h 0 0 (omega arith)
+names_class r (Tri k left right) one h = h 0 0 (omega arith)
+names_class r Round one h = absurd (omega (arith, one))
 
 -- a partition numbers its classes
 pub IsNumbered-partition : (Q : PairColouring) → IsPartition Q → IsNumbered Q.colours

@@ -10,7 +10,7 @@ use Rattle.split_cells.specs.Segments.{class_at}
 use Rattle.split_cells.specs.Pairs.{fibre_of, lead_of, partition_of}
 use Rattle.split_cells.specs.Faults.{HasHomes}
 use Rattle.split_cells.specs.Codes.{IsCodeTable, IsShort, IsShortened, IsCodedTo, IsCoded}
-use Rattle.split_cells.proofs.SegmentLemmas.{one_write}
+use Rattle.wl_round.proofs.OneWrite.{one_write}
 
 module _ (pairs : ClassedPairs) where
   abbrev n : ℕ

@@ -18,10 +18,11 @@ use Rattle.split_cells.specs.Codes.{IsShort}
 use Rattle.split_cells.specs.Keys.{IsKey, class_of, key_at}
 use Rattle.split_cells.specs.Faults.{IsSettled, HasHomes, NamesBelow, SplitsTwo}
 use Rattle.split_cells.specs.FirstPairs.{IsLikeFirst, IsHomeOfFirst, diagonal_of}
-use Rattle.split_cells.proofs.PointCounts.{count_none, count_hit}
+use Rattle.wl_round.proofs.PointCounts.{count_none, count_hit}
 use Rattle.split_cells.proofs.SegmentLemmas.{first_member}
 use Rattle.split_cells.proofs.GatherLemmas.{some_size, turned_at}
 use Rattle.split_cells.proofs.PartLemmas.{count_apart, each, key_once, keys}
+use Rattle.split_cells.proofs.OneClassSteps.{SplitsTwo-one_class}
 use Rattle.split_cells.proofs.CellLemmas.{keys_of_counts, parts_from_keys}
 
 -- the numbers that a step names
@@ -56,7 +57,7 @@ SplitsTwo-parts size class rank s len f =
     (λ no. omega (arith, ap unit_of (ne_eqb w (key_at P s p) ne), ap unit_of (ne_eqb w (key_at P s q) no)))
     (cases_eq w (key_at P s q)))
     (cases_eq w (key_at P s p))) (keys size class len counts (class_of s))) in
-    (parts_from_keys P s).1 (subst (λ l. 2 ≤ length l) same
+    (parts_from_keys P s (SplitsTwo-one_class P rank s f)).1 (subst (λ l. 2 ≤ length l) same
     (omega (arith, apart, key_once size class len counts (class_of s) (key_at P s p) one, key_once size class len counts (class_of s) (key_at P s q) two)))
 
 -- a triangle is counted

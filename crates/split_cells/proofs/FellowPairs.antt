@@ -15,9 +15,9 @@ use Rattle.split_cells.specs.Segments.{IsMembers, class_at}
 use Rattle.split_cells.specs.Pairs.{IsClassed, partition_of}
 use Rattle.split_cells.specs.Faults.{IsSettled, HasHomes, HasLikeRows, HasLikeRowsOnce, SplitsTwo}
 use Rattle.split_cells.specs.Codes.{IsCoded, code_over, code_count}
-use Rattle.split_cells.specs.CodeCounts.{AreSides, IsCountOf, sum_at, sum_count}
+use Rattle.wl_round.specs.CodeCounts.{AreSides, IsCountOf, sum_at, sum_count}
 use Rattle.split_cells.specs.Fellows.{HasCodeCounts, triangle_over}
-use Rattle.split_cells.proofs.PointCounts.{count_of_list}
+use Rattle.wl_round.proofs.PointCounts.{count_of_list}
 use Rattle.split_cells.proofs.GatherLemmas.{some_size}
 use Rattle.split_cells.proofs.RowPairs.{like_rows, more_triangles, coherent_from_rows}
 use Rattle.split_cells.proofs.FaultSteps.{all_pairs, below, at_points, turned_is, splits_triangles}

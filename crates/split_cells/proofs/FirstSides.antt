@@ -13,7 +13,7 @@ use Rattle.split_cells.specs.Segments.{IsMembers}
 use Rattle.split_cells.specs.Grids.{grid}
 use Rattle.split_cells.specs.Keys.{IsGathered, IsBlank, key_at}
 use Rattle.split_cells.specs.Sides.{IsRowCounted, is_over_left}
-use Rattle.split_cells.proofs.PointCounts.{count_none, count_one_more, count_short, square_le}
+use Rattle.wl_round.proofs.PointCounts.{count_none, count_one_more, count_short, square_le}
 use Rattle.split_cells.proofs.GatherLemmas.{some_size}
 
 -- of the pairs of row x, those before y are counted once more

@@ -9,7 +9,7 @@ use Rattle.pair_colours.proofs.Places.{row_below, column_below, place_below}
 use Rattle.split_cells.specs.Segments.{IsMembers}
 use Rattle.split_cells.specs.Grids.{IsTurned, grid, turned_place}
 use Rattle.split_cells.specs.Keys.{IsGathered, IsBlank}
-use Rattle.split_cells.proofs.SegmentLemmas.{one_write}
+use Rattle.wl_round.proofs.OneWrite.{one_write}
 
 -- the first a members of class k have their keys as counts
 pub record IsGatheredTo (class : List ℕ) (k : ℕ) (at : ℕ → ℕ) (key : ℕ → ℕ) (a : ℕ) (counts : List ℕ) : Type 0 where

@@ -3,6 +3,7 @@ use Rattle.std.proofs.Common.{◌≡◌, ◌≢◌, ◌↔◌, ◌==◌, ◌&&�
 use Rattle.std.specs.List.{AllByRecursion}
 use Rattle.std.proofs.lemmas.Bool.{cases_eq, cases_lt, eq-eqb, eqb-true, ne_eqb}
 use Rattle.std.proofs.lemmas.List.{length-map, get_or-map}
+use Rattle.std.proofs.lemmas.List.Elements.{All-nil}
 use Rattle.std.proofs.lemmas.List.FromFn.{get_or-map-range_with_len}
 use Rattle.std.proofs.lemmas.Nat.{div-add-mod', div-mul-add, mod-mul-add}
 use Rattle.pair_colours.specs.Colouring.{PairColouring, IsColouring, Refines, colour_at, points}
@@ -14,10 +15,11 @@ use Rattle.pair_colours.proofs.ListLemmas.{Each-weaker, map_agree}
 use Rattle.pair_colours.proofs.Names.{InSquare, Each-walk}
 use Rattle.pair_colours.proofs.Places.{place_below, row_below, column_below}
 use Rattle.trace_text.specs.declared.step_list.Step.{Step}
-use Rattle.trace_text.specs.declared.step_list.Step.TheVariants.{Diag, Flip, Tri}
+use Rattle.trace_text.specs.declared.step_list.Step.TheVariants.{Diag, Flip, Tri, Round}
 use Rattle.trace_text.specs.Partition.{IsPartition}
 use Rattle.trace_text.specs.Split.{HasParts, IsAllowed, numbers_of, split_of}
 use Rattle.trace_text.specs.Parts.{keys_in}
+use Rattle.trace_text.specs.Versions.{HasStep}
 use Rattle.trace_text.proofs.Partitions.{UsesBelow, rank_from_used, IsPartition-from_used}
 use Rattle.split_cells.specs.declared.classed_pairs.ClassedPairs.{ClassedPairs}
 use Rattle.split_cells.specs.declared.labels.Labels.{Labels}
@@ -29,6 +31,7 @@ use Rattle.split_cells.specs.Parts.{IsParted, part_from, smaller_counts}
 use Rattle.split_cells.specs.Labels.{AreLabels, shown_by, step_shown_by}
 use Rattle.split_cells.specs.Kept.{IsShown, shown_of}
 use Rattle.split_cells.proofs.PartLemmas.{Each-passed, IsUsed-few}
+use Rattle.split_cells.proofs.OneClassSteps.{one_class_shown, SplitsTwo-one_class}
 use Rattle.split_cells.proofs.CellLemmas.{keys_before, keys_of_counts, split_by_places, parts_from_keys, names_class}
 use Rattle.split_cells.proofs.FaultSteps.{SplitsTwo-parts, names_one, names_two, names_three}
 
@@ -162,11 +165,12 @@ module _ {pairs : ClassedPairs} {labels : Labels} (h : IsShown pairs labels) whe
   pub Coherent-shown : Coherent Q → Coherent P
   Coherent-shown c = Coherent-same Q P IsColouring-inner c refines-shown shown-refines
 
-  -- a step with the numbers that are shown has the same keys
-  class_shown : (s : Step) → class_of (step_shown_by labels.outer.items s) ≡ outer (class_of s)
-  class_shown (Diag k) = refl
-  class_shown (Flip k other) = refl
-  class_shown (Tri k left right) = refl
+  -- a step on one class with the numbers that are shown has the same keys
+  class_shown : (s : Step) → HasStep 1 s → class_of (step_shown_by labels.outer.items s) ≡ outer (class_of s)
+  class_shown (Diag k) one = refl
+  class_shown (Flip k other) one = refl
+  class_shown (Tri k left right) one = refl
+  class_shown Round one = absurd (omega (arith, one))
 
   colour_test : (x y k : ℕ) → x < n → y < n → k < rank → (colour_at P x y == outer k) ≡ (colour_at Q x y == k)
   colour_test x y k hx hy l = ap (λ w. w == outer k) (colour x y hx hy) ∙ test (colour_at Q x y) k (colour_low x y hx hy) l
@@ -180,11 +184,12 @@ module _ {pairs : ClassedPairs} {labels : Labels} (h : IsShown pairs labels) whe
       let a = colour_test x z left hx hz (names 1 0 (omega arith)) in
       let b = colour_test z y right hz hy (names 2 0 (omega arith)) in
       λ i. a i && b i)
+  key_shown Round names x y hx hy = refl
 
   pub key_shown_at : (s : Step) → NamesBelow rank s → (p : ℕ) → p < n * n → key_at P (step_shown_by labels.outer.items s) p ≡ key_at Q s p
   key_shown_at s names p l = key_shown s names (p / n) (p % n) (row_below n p h.classed.some l) (column_below n p h.classed.some)
 
-  module _ (s : Step) (names : NamesBelow rank s) (counts : List ℕ) (inside : (p : ℕ) → p < length class → get_or class p 0 ≡ class_of s → get_or counts p 0 ≡ key_at Q s p) where
+  module _ (s : Step) (one_class : HasStep 1 s) (names : NamesBelow rank s) (counts : List ℕ) (inside : (p : ℕ) → p < length class → get_or class p 0 ≡ class_of s → get_or counts p 0 ≡ key_at Q s p) where
     abbrev shown : Step
     shown = step_shown_by labels.outer.items s
 
@@ -192,11 +197,11 @@ module _ {pairs : ClassedPairs} {labels : Labels} (h : IsShown pairs labels) whe
     k = class_of s
 
     k_low : k < rank
-    k_low = names_class rank s names
+    k_low = names_class rank s one_class names
 
     pub keys_shown : keys_in P (class_of shown) (key_inside P shown) ≡ counts_in n class counts k
     keys_shown =
-        ap (λ c. keys_in P c (key_inside P shown)) (class_shown s)
+        ap (λ c. keys_in P c (key_inside P shown)) (class_shown s one_class)
         ∙ ap (λ ps. first_met (map key_of ps)) (filter_each in_shown in_class (walk n) (Each-weaker (InSquare n) (λ p. in_shown p ≡ in_class p) (λ p q. colour_test p.0 p.1 k q.0 q.1 k_low) (walk n) (Each-walk n)))
         ∙ ap first_met (map_agree key_of count_of (filter in_class (walk n))
         (Each-weaker (λ p. InSquare n p × (in_class p ≡ true)) (λ p. key_of p ≡ count_of p)
@@ -222,7 +227,7 @@ module _ {pairs : ClassedPairs} {labels : Labels} (h : IsShown pairs labels) whe
 
     pub parts_shown : HasParts P shown ↔ (2 ≤ length (counts_in n class counts k))
     parts_shown =
-        let two = parts_from_keys P shown in
+        let two = parts_from_keys P shown (one_class_shown labels.outer.items s one_class) in
         (λ x. subst (λ l. 2 ≤ length l) keys_shown (two.0 x), λ x. two.1 (subst (λ l. 2 ≤ length l) (sym keys_shown) x))
 
     -- how many keys are below that of a pair of the class
@@ -234,7 +239,7 @@ module _ {pairs : ClassedPairs} {labels : Labels} (h : IsShown pairs labels) whe
     -- the pairs of the class that is shown
     pub member_shown : (p : ℕ) → p < n * n → get_or P.colours p 0 ≡ class_of shown → get_or class p 0 ≡ k
     member_shown p l e =
-        one (get_or class p 0) k (omega (arith, low p l, few_classes)) (omega (arith, k_low, few_classes)) (sym (shown_at p l) ∙ e ∙ class_shown s)
+        one (get_or class p 0) k (omega (arith, low p l, few_classes)) (omega (arith, k_low, few_classes)) (sym (shown_at p l) ∙ e ∙ class_shown s one_class)
 
     -- what the step makes, with new numbers that are shown as the parts want it
     pub split_shown : (new labelled : List ℕ) → length new ≡ n * n
@@ -242,12 +247,12 @@ module _ {pairs : ClassedPairs} {labels : Labels} (h : IsShown pairs labels) whe
         → ((p : ℕ) → p < n * n → get_or class p 0 ≡ k → get_or labelled (get_or new p 0) 0 ≡ part_from rank (outer k) (smaller_counts n class counts k (get_or counts p 0)))
         → shown_by labelled (grid n new) ≡ split_of P shown
     split_shown new labelled len others parts =
-        split_by_places P shown (map (λ c. get_or labelled c 0) new) IsColouring-shown (length-map new (λ c. get_or labelled c 0) ∙ len)
-        (λ p l ne. get_or-map (λ c. get_or labelled c 0) new p 0 0 (omega (arith, l, len)) ∙ others p l (λ e. ne (shown_at p l ∙ ap outer e ∙ sym (class_shown s))) ∙ sym (shown_at p l))
+        split_by_places P shown (map (λ c. get_or labelled c 0) new) (one_class_shown labels.outer.items s one_class) IsColouring-shown (length-map new (λ c. get_or labelled c 0) ∙ len)
+        (λ p l ne. get_or-map (λ c. get_or labelled c 0) new p 0 0 (omega (arith, l, len)) ∙ others p l (λ e. ne (shown_at p l ∙ ap outer e ∙ sym (class_shown s one_class))) ∙ sym (shown_at p l))
         (λ p l e.
         let member = member_shown p l e in
         get_or-map (λ c. get_or labelled c 0) new p 0 0 (omega (arith, l, len)) ∙ parts p l member
-        ∙ (λ i. part_from (sym rank_shown i) (sym (class_shown s) i) (sym (before_shown p l member) i)))
+        ∙ (λ i. part_from (sym rank_shown i) (sym (class_shown s one_class) i) (sym (before_shown p l member) i)))
 
     -- the parts of a class, shown by the numbers as they are
     pub parted_shown : (new : List ℕ) → IsParted n class counts k rank new → ((p : ℕ) → p < n * n → get_or new p 0 < n * n) → shown_by labels.outer.items (grid n new) ≡ split_of P shown
@@ -290,6 +295,7 @@ module _ {pairs : ClassedPairs} {labels : Labels} (h : IsShown pairs labels) whe
   names_inner (Tri k left right) inside names =
       names_three rank k left right (names_inner_one k (inside 0 0 (omega arith)) (names 0 0 (omega arith))) (names_inner_one left (inside 1 0 (omega arith)) (names 1 0 (omega arith)))
       (names_inner_one right (inside 2 0 (omega arith)) (names 2 0 (omega arith)))
+  names_inner Round inside names = All-nil (λ number. number < rank)
 
   -- and the other way round
   names_shown : (s : Step) → NamesBelow rank s → NamesBelow rank (step_shown_by labels.outer.items s)
@@ -297,18 +303,20 @@ module _ {pairs : ClassedPairs} {labels : Labels} (h : IsShown pairs labels) whe
   names_shown (Flip k other) names = names_two rank (outer k) (outer other) (outer_low k (names 0 0 (omega arith))) (outer_low other (names 1 0 (omega arith)))
   names_shown (Tri k left right) names =
       names_three rank (outer k) (outer left) (outer right) (outer_low k (names 0 0 (omega arith))) (outer_low left (names 1 0 (omega arith))) (outer_low right (names 2 0 (omega arith)))
+  names_shown Round names = All-nil (λ number. number < rank)
 
   -- a step that parts two pairs may be made as it is shown
   pub IsAllowed-shown : (s : Step) → SplitsTwo Q rank s → IsAllowed P (step_shown_by labels.outer.items s)
   IsAllowed-shown s f =
+      let one_class = SplitsTwo-one_class Q rank s f in
       let counts : List ℕ = map (key_at Q s) (points (n * n)) in
       let inside : (p : ℕ) → p < length class → get_or class p 0 ≡ class_of s → get_or counts p 0 ≡ key_at Q s p =
       λ p l e. get_or-map-range_with_len (key_at Q s) 0 (n * n) p p 0 (omega (arith, l, all_pairs)) (omega arith) in
       let same = keys_of_counts n class counts s all_pairs inside in
-      let two = (parts_from_keys Q s).0 (SplitsTwo-parts n class rank s all_pairs f) in
+      let two = (parts_from_keys Q s one_class).0 (SplitsTwo-parts n class rank s all_pairs f) in
       record {
         names = subst (λ r. NamesBelow r (step_shown_by labels.outer.items s)) (sym rank_shown) (names_shown s f.names);
-        parts = (parts_shown s f.names counts inside).1 (subst (λ l. 2 ≤ length l) (sym same) two);
+        parts = (parts_shown s one_class f.names counts inside).1 (subst (λ l. 2 ≤ length l) (sym same) two);
       }
 
   -- with more classes the labels are labels still

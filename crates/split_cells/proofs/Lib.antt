@@ -1,6 +1,5 @@
 mod SegmentLemmas
 mod TallyLemmas
-mod PointCounts
 mod GatherLemmas
 mod FirstSides
 mod SecondSides
@@ -8,8 +7,10 @@ mod NestedSides
 mod KeyLemmas
 mod PartLemmas
 mod BuildLemmas
+mod ReadOut
+mod OneClassSteps
 mod CellLemmas
-mod SumCounts
+mod RoundSplits
 mod RowPairs
 mod CodeTables
 mod FaultSteps
@@ -18,4 +19,5 @@ mod Labelled
 mod Marking
 mod Marked
 mod Exchanged
-mod ReadOut
+mod WalkKeys
+mod PartsShown

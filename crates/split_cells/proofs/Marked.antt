@@ -155,7 +155,7 @@ module _ {pairs : ClassedPairs} {labels : Labels} (h : IsShown pairs labels) (k 
   -- there are two keys exactly where there are two marks
   pub parts_marked : HasParts P (step_shown_by labels.outer.items (Flip k other)) ↔ (2 ≤ length (counts_in n class marks k))
   parts_marked =
-      let shown = parts_shown h (Flip k other) (names_two rank k other lk lo) keys inside in
+      let shown = parts_shown h (Flip k other) tt (names_two rank k other lk lo) keys inside in
       let some = h.used k lk in (
         λ x.
             let b = both_marks n class size k keys IsMarking-keys some (shown.0 x) in
@@ -220,7 +220,7 @@ module _ {pairs : ClassedPairs} {labels : Labels} (h : IsShown pairs labels) (k 
 
     pub exchanged_shown : shown_by outers (grid n new.parting.class.items) ≡ split_of P (step_shown_by labels.outer.items (Flip k other))
     exchanged_shown =
-        split_shown h (Flip k other) (names_two rank k other lk lo) keys inside new.parting.class.items outers (p.len ∙ size)
+        split_shown h (Flip k other) tt (names_two rank k other lk lo) keys inside new.parting.class.items outers (p.len ∙ size)
         (λ q l ne.
         let old = p.others q (omega (arith, l, size)) ne in
         ap (λ j. get_or outers j 0) old

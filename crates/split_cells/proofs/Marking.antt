@@ -10,7 +10,7 @@ use Rattle.split_cells.specs.Grids.{turned_place}
 use Rattle.split_cells.specs.Pairs.{IsClassed}
 use Rattle.split_cells.specs.Keys.{IsGathered, IsBlank}
 use Rattle.split_cells.specs.Marks.{mark_at}
-use Rattle.split_cells.proofs.SegmentLemmas.{one_write}
+use Rattle.wl_round.proofs.OneWrite.{one_write}
 use Rattle.split_cells.proofs.GatherLemmas.{some_size, turned_at, turned_place_in}
 
 -- the marks of the pairs whose transposed pair is among the first a members of the other class

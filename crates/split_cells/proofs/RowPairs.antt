@@ -7,7 +7,7 @@ use Rattle.pair_colours.proofs.Counts.{count_by_points, triangle_point}
 use Rattle.split_cells.specs.declared.codes.Codes.{Codes}
 use Rattle.split_cells.specs.Faults.{IsSettled, HasHomes, HasLikeRowsOnce, row_pairs}
 use Rattle.split_cells.specs.Codes.{IsCoded, code_over, code_count}
-use Rattle.split_cells.proofs.PointCounts.{counted_point}
+use Rattle.wl_round.proofs.PointCounts.{counted_point}
 
 and_sym : (s t : Bool) → (s && t) ≡ (t && s)
 and_sym true true = refl

@@ -4,19 +4,12 @@ use Rattle.std.specs.List.{range_with_len}
 use Rattle.std.proofs.lemmas.Bool.{cases_eq}
 use Rattle.std.proofs.lemmas.List.{length-set, get_or-set_same, get_or-set_other, length-replicate, get_or-replicate}
 use Rattle.std.proofs.lemmas.List.FromFn.{length-range_with_len, get_or-range_with_len}
+use Rattle.wl_round.proofs.OneWrite.{one_write}
 use Rattle.split_cells.specs.declared.partings.Parting.{Parting}
 use Rattle.split_cells.specs.Grids.{HasMember}
 use Rattle.split_cells.specs.Segments.{IsSegmented, IsParting, IsMembers, class_at, first_of, stands_at}
 
--- what holds of an entry after a write
-pub one_write : (P : ℕ → Type 0) (xs : List ℕ) (i a k : ℕ) → i < length xs → (k ≡ i → P a) → (k ≢ i → P (get_or xs k 0)) → P (get_or (set xs i a) k 0)
-one_write P xs i a k l same other =
-    ⊎_elim
-    (λ e. subst (λ z. P (get_or (set xs i a) z 0)) (sym e) (subst P (sym (get_or-set_same xs i a 0 l)) (same e)))
-    (λ ne. subst P (sym (get_or-set_other xs i k a 0 ne)) (other ne))
-    (cases_eq k i)
-
--- and after two
+-- what holds of an entry after two writes
 pub two_writes : (P : ℕ → Type 0) (xs : List ℕ) (i a j b k : ℕ) → i < length xs → j < length xs → (k ≡ j → P b) → (k ≢ j → k ≡ i → P a) → (k ≢ j → k ≢ i → P (get_or xs k 0))
     → P (get_or (set (set xs i a) j b) k 0)
 two_writes P xs i a j b k li lj second first other =

@@ -2,6 +2,7 @@
 use Rattle.std.specs.Prelude.{◌≡◌, ℕ, ◌+◌, ◌*◌, ◌/◌, ◌%◌, ◌<◌, ◌≤◌, List, length, map, slice_index}
 use Rattle.pair_colours.specs.declared.coloured_pairs.TheConstants.{MOST_POINTS}
 use Rattle.pair_colours.specs.Colouring.{PairColouring, points}
+pub use Rattle.wl_round.specs.Sides.{IsTurned}
 
 -- the partition with these classes
 abbrev pub grid : ℕ → List ℕ → PairColouring
@@ -16,11 +17,6 @@ pub record IsPointTable (size : ℕ) (firsts seconds : List ℕ) : Type 0 where
 -- the place of the transposed pair
 abbrev pub turned_place : ℕ → ℕ → ℕ
 turned_place size p = p % size * size + p / size
-
--- `turned` has the class of the transposed pair at each place
-pub record IsTurned (size : ℕ) (class turned : List ℕ) : Type 0 where
-  pub len : length turned ≡ size * size
-  pub is : (x y : ℕ) → x < size → y < size → slice_index turned (x * size + y) ≡ slice_index class (y * size + x)
 
 -- class k has a pair
 pub record HasMember (class : List ℕ) (k : ℕ) : Type 0 where

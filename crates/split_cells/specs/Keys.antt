@@ -2,21 +2,23 @@
 use Rattle.std.specs.Prelude.{◌≡◌, ◌≢◌, ◌==◌, nat_lt, ℕ, ◌+◌, ◌*◌, ◌/◌, ◌%◌, ◌<◌, ◌≤◌, ◌&&◌, List, length, slice_index, Option, Some, None, if◌then◌else◌}
 use Rattle.pair_colours.specs.Colouring.{PairColouring, colour_at, triangles}
 use Rattle.trace_text.specs.declared.step_list.Step.{Step}
-use Rattle.trace_text.specs.declared.step_list.Step.TheVariants.{Diag, Flip, Tri}
+use Rattle.trace_text.specs.declared.step_list.Step.TheVariants.{Diag, Flip, Tri, Round}
 use Rattle.trace_text.specs.Parts.{keys_in}
 use Rattle.split_cells.specs.Grids.{grid}
 
--- the class that a step splits
+-- the class that a step splits; a round splits all, so that 0 stands for it
 abbrev pub class_of : Step → ℕ
 class_of (Diag k) = k
 class_of (Flip k other) = k
 class_of (Tri k left right) = k
+class_of Round = 0
 
--- the key of (x, y) for a step, where the pair is in its class
+-- the key of (x, y) for a step on one class, where the pair is in it
 abbrev pub key_inside : PairColouring → Step → ℕ → ℕ → ℕ
 key_inside P (Diag k) x y = if x == y then 0 else 1
 key_inside P (Flip k other) x y = if colour_at P y x == other then 0 else 1
 key_inside P (Tri k left right) x y = triangles P x y left right
+key_inside P Round x y = 0
 
 -- the key of the pair at a place
 abbrev pub key_at : PairColouring → Step → ℕ → ℕ

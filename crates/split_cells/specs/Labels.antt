@@ -2,7 +2,7 @@
 use Rattle.std.specs.Prelude.{◌≡◌, ℕ, ◌<◌, ◌≤◌, List, length, map, slice_index}
 use Rattle.pair_colours.specs.Colouring.{PairColouring}
 use Rattle.trace_text.specs.declared.step_list.Step.{Step}
-use Rattle.trace_text.specs.declared.step_list.Step.TheVariants.{Diag, Flip, Tri}
+use Rattle.trace_text.specs.declared.step_list.Step.TheVariants.{Diag, Flip, Tri, Round}
 
 -- two permutations of the numbers below a bound, each the inverse of the other
 pub record AreInverse (bound : ℕ) (outer inner : List ℕ) : Type 0 where
@@ -27,3 +27,4 @@ abbrev pub step_shown_by : List ℕ → Step → Step
 step_shown_by outer (Diag k) = Diag (slice_index outer k)
 step_shown_by outer (Flip k other) = Flip (slice_index outer k) (slice_index outer other)
 step_shown_by outer (Tri k left right) = Tri (slice_index outer k) (slice_index outer left) (slice_index outer right)
+step_shown_by outer Round = Round

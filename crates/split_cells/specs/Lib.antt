@@ -11,7 +11,7 @@ pub mod Marks
 pub mod Kept
 pub mod Faults
 pub mod Codes
-pub mod CodeCounts
 pub mod FirstPairs
 pub mod Fellows
 pub mod Rows
+pub mod PartNumbers

@@ -1,26 +1,14 @@
-//! A parting from the class of each number, and the transposed matrix.
+//! A parting from the class of each number.
 
-ghost use Rattle.std.specs.Prelude.{◌≡◌, ◌≢◌, ℕ, ◌+◌, ◌*◌, ◌/◌, ◌%◌, ◌^◌, ◌<◌, ◌≤◌, IfOk, length, slice_index};
+ghost use Rattle.std.specs.Prelude.{◌≡◌, ◌≢◌, ℕ, ◌+◌, ◌/◌, ◌%◌, ◌^◌, ◌<◌, ◌≤◌, IfOk, length};
 ghost use Rattle.split_cells.specs.Segments.{IsParting, StandsBehind, bound_of, class_at};
-ghost use Rattle.split_cells.specs.Grids.{IsTurned, IsUsed};
-ghost use Rattle.split_cells.specs.Sorted.{IsNumbered, IsSortedCodes};
+ghost use Rattle.split_cells.specs.Grids.{IsUsed};
+ghost use Rattle.split_cells.specs.Sorted.{IsNumbered};
 
 use crate::partings::Parting;
-use pair_colours::{NoMemory, pair_code};
+use pair_colours::NoMemory;
 use std::alloc::Global;
-
-// The numbers with their classes, in the order of the classes.
-fn sorted_codes(alloc: Global, class: &[u32]) -> Result<Vec<u64>, NoMemory>
-    requires { length class.now < 2 ^ 31 }
-    ensures { IfOk result (λ codes. IsSortedCodes class.now codes.items) }
-{
-    let mut codes = Vec::with_capacity(alloc, class.len())?;
-    for p in 0..class.len() {
-        codes.push(pair_code(class[p], p as u32))?;
-    }
-    codes.sort_unstable();
-    Ok(codes)
-}
+use wl_round::sorting::sorted_codes;
 
 // Moves p from class 0 to a class, which is the newest or the next.
 fn settle(parting: &mut Parting, p: u32, class: u32)
@@ -67,19 +55,4 @@ pub(crate) fn parted(alloc: Global, class: &[u32]) -> Result<Parting, NoMemory>
         }
     }
     Ok(parting)
-}
-
-// The class of the transposed pair, for each pair.
-pub(crate) fn transposed(alloc: Global, size: u32, class: &[u32]) -> Result<Vec<u32>, NoMemory>
-    requires len { length class.now ≡ size * size }
-    requires small { size * size < 2 ^ 31 }
-    ensures { IfOk result (λ turned. IsTurned size class.now turned.items) }
-{
-    let mut turned = Vec::with_capacity(alloc, class.len())?;
-    for x in 0..size {
-        for y in 0..size {
-            turned.push(class[(y * size + x) as usize])?;
-        }
-    }
-    Ok(turned)
 }

@@ -1,20 +1,23 @@
 //! The pairs of points, parted into numbered classes.
 
-ghost use Rattle.std.specs.Prelude.{◌≡◌, ℕ, ◌*◌, ◌<◌, ◌≤◌, ◌==◌, ◌↔◌, IsTrue, IfOk, IfSome, IfNone, count_by};
+ghost use Rattle.std.specs.Prelude.{◌≡◌, ℕ, ◌*◌, ◌<◌, ◌≤◌, ◌==◌, ◌↔◌, IsTrue, IfOk, OnOk, OnErr, IfSome, IfNone, count_by};
 ghost use Rattle.std.specs.Bool.{OnFalse};
 ghost use Rattle.pair_colours.specs.Colouring.{colour_at};
 ghost use Rattle.pair_colours.specs.Closure.{Coherent};
-ghost use Rattle.pair_colours.specs.Naming.{named_of, rank_of};
+ghost use Rattle.pair_colours.specs.Naming.{rank_of};
 ghost use Rattle.trace_text.specs.Partition.{IsPartition};
+ghost use Rattle.trace_text.specs.declared.step_list.Step.TheVariants.{Round};
+ghost use Rattle.trace_text.specs.Versions.{HasStep};
 ghost use Rattle.trace_text.specs.Split.{HasParts, IsAllowed, NamesClasses, split_of};
 ghost use Rattle.split_cells.specs.Rows.{IsRowCopied};
 
-use crate::building::{parted, transposed};
+use crate::building::parted;
 use crate::classed_pairs::ClassedPairs;
 use crate::comparing::Comparison;
 use crate::faults::fault;
 use crate::labels::Labels;
 use crate::looks::likely_step;
+use crate::renumbering::renumbered;
 use crate::sizes::Size;
 use crate::steps::make_step;
 use crate::tallies::Tally;
@@ -24,6 +27,8 @@ use pair_colours::{Colouring, NoMemory};
 use std::alloc::Global;
 use std::marker::Model;
 use trace_text::Step;
+use wl_round::round_of;
+use wl_round::transposing::transposed;
 
 /// A partition of the pairs of points into classes with the numbers from 0 on.
 #[derive(Drop)]
@@ -45,9 +50,10 @@ impl Model for Cells {
 }
 
 impl Cells {
-    /// The classes of a colouring that is canonically named.
+    /// The classes of a partition: of a colouring whose colours are the numbers from 0 on, each in use.
+    /// Colourings that are canonically named are such.
     pub fn of(alloc: Global, colouring: &Colouring) -> Result<Cells, NoMemory>
-        requires { named_of colouring.now ≡ colouring.now }
+        requires { IsPartition colouring.now }
         ensures { IfOk result (λ cells. cells ≡ colouring.now) }
     {
         let points = colouring.size();
@@ -112,6 +118,7 @@ impl Cells {
             Step::Diag { class } => class < rank,
             Step::Flip { class, other } => class < rank && other < rank,
             Step::Tri { class, left, right } => class < rank && left < rank && right < rank,
+            Step::Round => true,
         }
     }
 
@@ -138,9 +145,11 @@ impl Cells {
         Ok(colouring)
     }
 
-    /// Makes a step, and says whether the class had two parts. If not, nothing has changed.
+    /// Makes a step on one class, and says whether the class had two parts. If not, nothing has
+    /// changed.
     pub fn split(&mut self, step: Step) -> bool
-        requires { NamesClasses self.old step }
+        requires one_class { HasStep 1 step }
+        requires names { NamesClasses self.old step }
         ensures parts { self.new ≡ split_of self.old step }
         ensures split { IsTrue result ↔ HasParts self.old step }
         ensures same { OnFalse result (self.new ≡ self.old) }
@@ -152,8 +161,30 @@ impl Cells {
         split
     }
 
+    /// Makes the step `R`, and says whether some class had two parts. If not, or where there is not
+    /// enough memory, nothing has changed.
+    pub fn round(&mut self, alloc: Global) -> Result<bool, NoMemory>
+        ensures parts { OnOk result (self.new ≡ split_of self.old Round) }
+        ensures split { IfOk result (λ split. IsTrue split ↔ HasParts self.old Round) }
+        ensures same { IfOk result (λ split. OnFalse split (self.new ≡ self.old)) }
+        ensures unchanged { OnErr result (self.new ≡ self.old) }
+        ensures within { IsPartition self.new }
+    {
+        let partition = self.colouring(alloc)?;
+        let round = round_of(alloc, &partition)?;
+        let parted = renumbered(alloc, &partition, self.rank(), &round)?;
+        let cells = Cells::of(alloc, &parted)?;
+        let split = cells.rank() > self.rank();
+        if split {
+            *self = cells;
+        }
+        Ok(split)
+    }
+
     // The triangle step with the numbers by which classes are shown.
-    fn shown_triangle(&self, t: Triangle) -> Option<Step> {
+    fn shown_triangle(&self, t: Triangle) -> Option<Step>
+        ensures { IfSome result (HasStep 1) }
+    {
         Some(Step::Tri {
             class: *self.labels.outer.get(t.class as usize)?,
             left: *self.labels.outer.get(t.left as usize)?,
@@ -165,6 +196,7 @@ impl Cells {
     /// a search: nothing is promised of it.
     pub fn likely_step(&self, k: u32, seed: u32) -> Option<Step>
         requires { k < rank_of self.now }
+        ensures { IfSome result (HasStep 1) }
     {
         let inner = self.labels.inner[k as usize];
         self.shown_triangle(likely_step(&self.pairs, inner, seed)?)
@@ -179,6 +211,7 @@ impl Cells {
     /// classes stand over a point. It serves a search: nothing is promised of it.
     pub fn odd_step(&self, k: u32, comparison: &mut Comparison) -> Option<Step>
         requires { k < rank_of self.now }
+        ensures { IfSome result (HasStep 1) }
     {
         let inner = self.labels.inner[k as usize];
         self.shown_triangle(comparison.step(&self.pairs, inner)?)
@@ -188,6 +221,7 @@ impl Cells {
     /// search: nothing is promised of it.
     pub fn flip_step(&self, k: u32) -> Option<Step>
         requires { k < rank_of self.now }
+        ensures { IfSome result (HasStep 1) }
     {
         let inner = self.labels.inner[k as usize];
         let other = turned_apart(&self.pairs, inner)?;
@@ -208,9 +242,10 @@ impl Cells {
             .copied()
     }
 
-    /// A step that is not idle; none where the partition is coherent.
+    /// A step on one class that is not idle; none where the partition is coherent.
     pub fn first_fault(&self, alloc: Global) -> Result<Option<Step>, NoMemory>
         ensures fault { IfOk result (λ found. IfSome found (λ step. IsAllowed self.now step)) }
+        ensures one_class { IfOk result (λ found. IfSome found (HasStep 1)) }
         ensures coherent { IfOk result (λ found. IfNone found (Coherent self.now)) }
         ensures within { IsPartition self.now }
     {

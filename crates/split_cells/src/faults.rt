@@ -12,16 +12,16 @@ ghost use Rattle.split_cells.specs.Pairs.{IsClassed, fibre_of, partition_of};
 ghost use Rattle.split_cells.specs.Faults.{HasHomes, HasLikeRowsOnce, IsSettled, SplitsTwo};
 ghost use Rattle.split_cells.specs.FirstPairs.{IsHomeOfFirst, IsLikeFirst};
 ghost use Rattle.split_cells.specs.Codes.{IsCodeTable, IsCoded};
-ghost use Rattle.split_cells.specs.CodeCounts.{AreBlank};
+ghost use Rattle.wl_round.specs.CodeCounts.{AreBlank};
 ghost use Rattle.split_cells.specs.Fellows.{AreFellows, HasCodeCounts, triangle_over};
 
 use crate::classed_pairs::ClassedPairs;
-use crate::code_counts::{clear, count_up, exceeding};
 use crate::codes::{Codes, code_rows, short_numbers};
 use crate::gathering::diagonal_key;
 use pair_colours::NoMemory;
 use std::alloc::Global;
 use trace_text::Step;
+use wl_round::code_counts::{clear, count_up, exceeding};
 
 // A step that parts the pair at place p from the first one of its class, by the diagonal or by the
 // class of the transposed pair.

@@ -69,6 +69,7 @@ impl Labels {
                 left: self.inner[left as usize],
                 right: self.inner[right as usize],
             },
+            Step::Round => Step::Round,
         }
     }
 
@@ -90,6 +91,7 @@ impl Labels {
                 left: self.outer[left as usize],
                 right: self.outer[right as usize],
             },
+            Step::Round => Step::Round,
         }
     }
 }

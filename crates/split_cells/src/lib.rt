@@ -11,6 +11,7 @@
 //! * `splitting`: the parts of a class, by the keys of its pairs.
 //! * `gathering`: those keys; `triangle_counts`: those of triangles; `flipping`: the parts by
 //!   transposed classes.
+//! * `renumbering`: the numbers of the classes after a round.
 //! * `building`: classes from the class of each pair.
 //! * `classed_pairs`: `ClassedPairs`, the pairs of points in numbered classes.
 //! * `partings`: `Parting`, numbered classes, each a segment of one list.
@@ -23,7 +24,6 @@
 mod building;
 mod cells;
 mod classed_pairs;
-mod code_counts;
 mod codes;
 mod comparing;
 mod faults;
@@ -32,6 +32,7 @@ mod gathering;
 mod labels;
 mod looks;
 mod partings;
+mod renumbering;
 mod sides;
 mod sizes;
 mod splitting;

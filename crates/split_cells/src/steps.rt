@@ -2,6 +2,7 @@
 
 ghost use Rattle.std.specs.Prelude.{◌≡◌, ◌<◌, ◌↔◌, IsTrue, length};
 ghost use Rattle.trace_text.specs.Split.{HasParts, split_of};
+ghost use Rattle.trace_text.specs.Versions.{HasStep};
 ghost use Rattle.split_cells.specs.Keys.{IsBlank};
 ghost use Rattle.split_cells.specs.Faults.{NamesBelow};
 ghost use Rattle.split_cells.specs.Labels.{step_shown_by};
@@ -16,7 +17,7 @@ use crate::tallies::Tally;
 use crate::triangle_counts::{Triangle, count_triangles};
 use trace_text::Step;
 
-// Makes a step, and says whether its class had two parts. The counts are left behind.
+// Makes a step on one class, and says whether its class had two parts. The counts are left behind.
 pub(crate) fn make_step(
     pairs: &mut ClassedPairs,
     labels: &mut Labels,
@@ -24,6 +25,7 @@ pub(crate) fn make_step(
     step: Step,
 ) -> bool
     requires shown { IsShown pairs.old labels.old }
+    requires one_class { HasStep 1 step }
     requires names { NamesBelow pairs.old.parting.rank step }
     requires blank { IsBlank pairs.old.parting.class.items tally.old.counts }
     ensures shown { IsShown pairs.new labels.new }
@@ -42,5 +44,6 @@ pub(crate) fn make_step(
             count_triangles(pairs, tally, Triangle { class, left, right });
             part(pairs, tally, class)
         }
+        Step::Round => unreachable!(),
     }
 }

@@ -1,6 +1,7 @@
 //! A few steps on three points.
 
 ghost use Rattle.std.specs.Prelude.{◌≤◌};
+ghost use Rattle.trace_text.specs.Versions.{HasStep};
 ghost use Rattle.pair_colours.specs.declared.coloured_pairs.TheConstants.{MOST_POINTS};
 
 use super::*;
@@ -33,7 +34,9 @@ fn classes(alloc: Global, cells: &Cells) -> Result<Vec<u32>, NoMemory> {
 }
 
 // Makes a step that names classes.
-fn made(cells: &mut Cells, step: Step) -> bool {
+fn made(cells: &mut Cells, step: Step) -> bool
+    requires { HasStep 1 step }
+{
     cells.names(step) && cells.split(step)
 }
 
@@ -73,5 +76,18 @@ fn steps_on_three_points(rt: HostRuntime) -> Result<(), Fail> {
     );
     assert_eq!(rt; cells.first_fault(rt.alloc())?, None);
     assert_eq!(rt; cells.rank(), 2);
+    Ok(())
+}
+
+#[test]
+fn rounds_on_three_points(rt: HostRuntime) -> Result<(), Fail> {
+    let mut cells = one_class(rt.alloc(), 3)?;
+    for split in [true, false] {
+        assert_eq!(rt; cells.round(rt.alloc())?, split);
+        assert_eq!(rt;
+            classes(rt.alloc(), &cells)?.as_slice(),
+            [0, 1, 1, 1, 0, 1, 1, 1, 0].as_slice()
+        );
+    }
     Ok(())
 }

@@ -1,8 +1,8 @@
 //! The stages of a claim, gone through step by step.
 
-ghost use Rattle.std.specs.Prelude.{◌≡◌, ℕ, ◌∷◌, [], ◌+◌, ◌^◌, ◌<◌, length, OnOk, IfOk, IfErr, IfSome, IfNone};
+ghost use Rattle.std.specs.Prelude.{◌≡◌, ◌↔◌, ℕ, ◌∷◌, [], ◌+◌, ◌^◌, ◌<◌, IsTrue, length, OnOk, IfOk, IfErr, IfSome, IfNone};
 ghost use Rattle.pair_colours.specs.Colouring.{IsColouring};
-ghost use Rattle.trace_text.specs.Split.{IsSplit, Lead};
+ghost use Rattle.trace_text.specs.Split.{HasParts, IsSplit, Lead, NamesClasses, split_of};
 ghost use Rattle.trace_text.specs.Chains.{Follows, IsStageOf, stage_end, stage_start};
 ghost use Rattle.trace_text.specs.BadLines.{IsFirstFailing, line_count_of_stage, stage_conditions, step_conditions};
 ghost use Rattle.trace_text.proofs.Stages.{IsEnd};
@@ -21,40 +21,55 @@ pub(crate) struct BadLine {
     pub(crate) what: CheckWord,
 }
 
+// Splits the classes by a step that names numbers of classes, and says whether some class had two
+// parts.
+fn split(alloc: Global, cells: &mut Cells, step: Step) -> Result<bool, NoMemory>
+    requires { NamesClasses cells.old step }
+    ensures parts { OnOk result (cells.new ≡ split_of cells.old step) }
+    ensures split { IfOk result (λ split. IsTrue split ↔ HasParts cells.old step) }
+{
+    match step {
+        Step::Round => cells.round(alloc),
+        one_class => Ok(cells.split(one_class)),
+    }
+}
+
 // Makes a step, or tells why it is bad.
-fn make(cells: &mut Cells, step: Step) -> Result<(), CheckWord>
-    ensures split { OnOk result (IsSplit cells.old step cells.new) }
-    ensures refused { IfErr result (λ what. (line : ℕ) → IsFirstFailing (step_conditions line cells.old (step ∷ [])) line what) }
+fn make(alloc: Global, cells: &mut Cells, step: Step) -> Result<Option<CheckWord>, NoMemory>
+    ensures split { IfOk result (λ bad. IfNone bad (IsSplit cells.old step cells.new)) }
+    ensures refused { IfOk result (λ bad. IfSome bad (λ what. (line : ℕ) → IsFirstFailing (step_conditions line cells.old (step ∷ [])) line what)) }
 {
     let named = cells.names(step);
     if !named {
-        return Err(CheckWord::NoSuchClass);
+        return Ok(Some(CheckWord::NoSuchClass));
     }
-    let split = cells.split(step);
+    let split = split(alloc, cells, step)?;
     if !split {
-        return Err(CheckWord::IdleStep);
+        return Ok(Some(CheckWord::IdleStep));
     }
-    Ok(())
+    Ok(None)
 }
 
 // Makes the steps, the first of which stands on this line, up to the first that is bad.
-fn follow(cells: &mut Cells, steps: &Steps, line: u32) -> Result<(), BadLine>
+fn follow(
+    alloc: Global,
+    cells: &mut Cells,
+    steps: &Steps,
+    line: u32,
+) -> Result<Option<BadLine>, NoMemory>
     requires { line + length steps.now < 2 ^ 32 }
-    ensures led { OnOk result (Lead steps.now cells.old cells.new) }
-    ensures refused { IfErr result (λ bad. IsFirstFailing (step_conditions line cells.old steps.now) bad.line bad.what) }
+    ensures led { IfOk result (λ bad. IfNone bad (Lead steps.now cells.old cells.new)) }
+    ensures refused { IfOk result (λ bad. IfSome bad (λ bad. IsFirstFailing (step_conditions line cells.old steps.now) bad.line bad.what)) }
 {
     for i in 0..steps.len() {
-        match make(cells, steps.at(i)) {
-            Ok(()) => {}
-            Err(what) => {
-                return Err(BadLine {
-                    line: line + i,
-                    what,
-                });
-            }
+        if let Some(what) = make(alloc, cells, steps.at(i))? {
+            return Ok(Some(BadLine {
+                line: line + i,
+                what,
+            }));
         }
     }
-    Ok(())
+    Ok(None)
 }
 
 // A stage that was gone through: its colours, and the partition after its steps.
@@ -109,11 +124,11 @@ pub(crate) fn replay<'a>(
             what: CheckWord::StageNotRefining,
         }));
     };
-    match follow(&mut cells, &stage.steps, first_step) {
-        Ok(()) => Ok(Ok(Ended {
+    match follow(alloc, &mut cells, &stage.steps, first_step)? {
+        None => Ok(Ok(Ended {
             colours: &stage.colours,
             cells,
         })),
-        Err(bad) => Ok(Err(bad)),
+        Some(bad) => Ok(Err(bad)),
     }
 }

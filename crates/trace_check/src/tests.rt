@@ -72,7 +72,16 @@ fn claims_of_one_stage(rt: HostRuntime) -> Result<(), Fail> {
         left: 1,
         right: 1,
     });
-    let claims: [([u32; 4], [Option<Step>; 2], [u32; 4], Verdict); 7] = [
+    let round = Some(Step::Round);
+    let claims: [([u32; 4], [Option<Step>; 2], [u32; 4], Verdict); 10] = [
+        (ONE_COLOUR, [round, None], DIAGONAL, accepted(2)),
+        (
+            ONE_COLOUR,
+            [round, round],
+            DIAGONAL,
+            refused(7, CheckWord::IdleStep),
+        ),
+        (DIRECTED, [round, None], DISCRETE, accepted(4)),
         (ONE_COLOUR, [part, None], DIAGONAL, accepted(2)),
         (
             ONE_COLOUR,
@@ -110,7 +119,11 @@ fn claims_of_one_stage(rt: HostRuntime) -> Result<(), Fail> {
         let mut chain = Chain::new(rt.alloc());
         chain.push(stage(rt.alloc(), colours, steps)?)?;
         let closure = coloured(rt.alloc(), closure)?;
-        let claim = Claim { chain, closure };
+        let claim = Claim {
+            version: 2,
+            chain,
+            closure,
+        };
         assert_eq!(rt; check(rt.alloc(), &claim), Ok(verdict));
     }
     Ok(())
@@ -122,7 +135,11 @@ fn a_later_stage_that_does_not_refine(rt: HostRuntime) -> Result<(), Fail> {
     chain.push(stage(rt.alloc(), DIAGONAL, [None, None])?)?;
     chain.push(stage(rt.alloc(), [0, 0, 0, 0], [None, None])?)?;
     let closure = coloured(rt.alloc(), DIAGONAL)?;
-    let claim = Claim { chain, closure };
+    let claim = Claim {
+        version: 1,
+        chain,
+        closure,
+    };
     let verdict = refused(6, CheckWord::StageNotRefining);
     assert_eq!(rt; check(rt.alloc(), &claim), Ok(verdict));
     Ok(())

@@ -16,6 +16,7 @@ use Rattle.trace_text.specs.Partition.{IsPartition}
 use Rattle.trace_text.specs.Split.{numbers_of, split_of, Lead}
 use Rattle.trace_text.specs.Chains.{StageEnd, stage_start, IsStageOf, stage_end, end_after, AreStages}
 use Rattle.trace_text.specs.Acceptance.{Accepts}
+use Rattle.trace_text.specs.Versions.{HasStep, IsVersioned}
 use Rattle.trace_text.specs.ClaimTexts.{IsTraceStep, IsTraceStage, FitsTrace}
 use Rattle.trace_text.proofs.RawNumbers.{raw_from}
 use Rattle.trace_text.proofs.Partitions.{IsPartition-named_of}
@@ -37,58 +38,66 @@ partition_raw P p few = raw_from P p.colouring few (recursion_from_All (λ colou
         let low = p.below (k / P.size) (k % P.size) (row_below P.size k p.colouring.has_points inside) (column_below P.size k p.colouring.has_points) in
         omega (arith, few_classes P p few, low, at_place P k)
 
--- and steps that lead on from it name small numbers
-lead_small : (steps : List Step) (P P2 : PairColouring) → IsPartition P → P.size ≤ MOST_POINTS → Lead steps P P2 → AllByRecursion IsTraceStep steps
-lead_small [] P P2 h few l = tt
-lead_small (s ∷ steps) P P2 h few l = (
-  Each-weaker (λ number. number < rank_of P) (λ number. number ≤ MOST_STEP_NUMBER) (λ number low. omega (arith, low, few_classes P h few)) (numbers_of s)
-      (recursion_from_All (λ number. number < rank_of P) (numbers_of s) l.0.names),
-  lead_small steps (split_of P s) P2 (IsPartition-split_of P s h) few l.1,
+-- and steps of a version that lead on from it name small numbers
+lead_small : (v : ℕ) (steps : List Step) (P P2 : PairColouring) → IsPartition P → P.size ≤ MOST_POINTS → AllByRecursion (HasStep v) steps → Lead steps P P2 → AllByRecursion (IsTraceStep v) steps
+lead_small v [] P P2 h few known l = tt
+lead_small v (s ∷ steps) P P2 h few known l = (
+  record {
+    known = known.0;
+    numbers = Each-weaker (λ number. number < rank_of P) (λ number. number ≤ MOST_STEP_NUMBER) (λ number low. omega (arith, low, few_classes P h few)) (numbers_of s)
+        (recursion_from_All (λ number. number < rank_of P) (numbers_of s) l.0.names);
+  },
+  lead_small v steps (split_of P s) P2 (IsPartition-split_of P s h) few known.1 l.1,
 )
 
+-- the stage has steps of a version
+abbrev HasSteps : ℕ → Stage → Type 0
+HasSteps v stage = AllByRecursion (HasStep v) stage.steps
+
 -- a stage of n points
-stage_fits : (n : ℕ) (before : Option StageEnd) (stage : Stage) (P : PairColouring) → IsEnd before → stage.colours.size ≡ n → IsRawColouring stage.colours → IsStageOf before stage P
-    → IsTraceStage n stage
-stage_fits n before stage P e size raw d =
+stage_fits : (v n : ℕ) (before : Option StageEnd) (stage : Stage) (P : PairColouring) → IsEnd before → stage.colours.size ≡ n → IsRawColouring stage.colours → HasSteps v stage → IsStageOf before stage P
+    → IsTraceStage v n stage
+stage_fits v n before stage P e size raw known d =
     let s = start_between before stage.colours e raw.fits.colouring d.follows in
     record {
       points = size;
       colours = raw;
-      steps = lead_small stage.steps (stage_start before stage.colours) P s.partition (omega (arith, s.refines.sizes, raw.fits.limit)) d.leads;
+      steps = lead_small v stage.steps (stage_start before stage.colours) P s.partition (omega (arith, s.refines.sizes, raw.fits.limit)) known d.leads;
     }
 
 -- the stages after one of n points, and where they end
-record FitAfter (n : ℕ) (end : StageEnd) (rest : List Stage) : Type 0 where
-  stages : AllByRecursion (IsTraceStage n) rest
+record FitAfter (v n : ℕ) (end : StageEnd) (rest : List Stage) : Type 0 where
+  stages : AllByRecursion (IsTraceStage v n) rest
   size : (last : StageEnd) → end_after (Some end) rest ≡ Some last → last.partition.size ≡ n
 
-rest_fits : (n : ℕ) (end : StageEnd) (rest : List Stage) → IsBetween end.colours end.partition → end.colours.size ≡ n → AllByRecursion (λ stage. IsRawColouring stage.colours) rest
-    → AreStages (Some end) rest → FitAfter n end rest
-rest_fits n end [] b size raw h = record {
+rest_fits : (v n : ℕ) (end : StageEnd) (rest : List Stage) → IsBetween end.colours end.partition → end.colours.size ≡ n → AllByRecursion (λ stage. IsRawColouring stage.colours) rest
+    → AllByRecursion (HasSteps v) rest → AreStages (Some end) rest → FitAfter v n end rest
+rest_fits v n end [] b size raw known h = record {
   stages = tt;
   size = λ last e. let same : end ≡ last = cc in sym (ap (λ (one : StageEnd). one.partition.size) same) ∙ b.refines.sizes ∙ size;
 }
-rest_fits n end (stage ∷ rest) b size raw h =
+rest_fits v n end (stage ∷ rest) b size raw known h =
     let next = stage_end (Some end) stage in
     let own : stage.colours.size ≡ n = h.0.follows.sizes ∙ size in
-    let later = rest_fits n next rest (end_between (Some end) stage next.partition b raw.0.fits.colouring h.0) own raw.1 h.1 in
-    record { stages = (stage_fits n (Some end) stage next.partition b own raw.0 h.0, later.stages); size = later.size }
+    let later = rest_fits v n next rest (end_between (Some end) stage next.partition b raw.0.fits.colouring h.0) own raw.1 known.1 h.1 in
+    record { stages = (stage_fits v n (Some end) stage next.partition b own raw.0 known.0 h.0, later.stages); size = later.size }
 
 -- all stages of a chain
-record FitsChain (chain : List Stage) (last : StageEnd) : Type 0 where
+record FitsChain (v : ℕ) (chain : List Stage) (last : StageEnd) : Type 0 where
   has_stage : 1 ≤ length chain
-  stages : AllByRecursion (IsTraceStage last.partition.size) chain
+  stages : AllByRecursion (IsTraceStage v last.partition.size) chain
   limit : last.partition.size ≤ MOST_POINTS
 
-chain_fits : (chain : List Stage) (last : StageEnd) → AllByRecursion (λ stage. IsRawColouring stage.colours) chain → AreStages None chain → end_after None chain ≡ Some last → FitsChain chain last
-chain_fits [] last raw h e = absurd cc
-chain_fits (stage ∷ rest) last raw h e =
+chain_fits : (v : ℕ) (chain : List Stage) (last : StageEnd) → AllByRecursion (λ stage. IsRawColouring stage.colours) chain → AllByRecursion (HasSteps v) chain
+    → AreStages None chain → end_after None chain ≡ Some last → FitsChain v chain last
+chain_fits v [] last raw known h e = absurd cc
+chain_fits v (stage ∷ rest) last raw known h e =
     let end = stage_end None stage in
-    let later = rest_fits stage.colours.size end rest (end_between None stage end.partition tt raw.0.fits.colouring h.0) refl raw.1 h.1 in
+    let later = rest_fits v stage.colours.size end rest (end_between None stage end.partition tt raw.0.fits.colouring h.0) refl raw.1 known.1 h.1 in
     let size = sym (later.size last e) in
     record {
       has_stage = omega arith;
-      stages = (stage_fits last.partition.size None stage end.partition tt size raw.0 h.0, subst (λ n. AllByRecursion (IsTraceStage n) rest) size later.stages);
+      stages = (stage_fits v last.partition.size None stage end.partition tt size raw.0 known.0 h.0, subst (λ n. AllByRecursion (IsTraceStage v n) rest) size later.stages);
       limit = omega (arith, size, raw.0.fits.limit);
     }
 
@@ -99,14 +108,15 @@ last_partition claim raw a =
     let between : IsBetween a.last.colours a.last.partition = subst IsEnd a.ends (stages_between None claim.chain tt each a.stages) in
     between.partition
 
-pub accepted_fits_trace : (claim : Claim) → Accepts claim → All (λ stage. IsRawColouring stage.colours) claim.chain → FitsTrace claim
-accepted_fits_trace claim a raw =
+pub accepted_fits_trace : (claim : Claim) → IsVersioned claim → Accepts claim → All (λ stage. IsRawColouring stage.colours) claim.chain → FitsTrace claim
+accepted_fits_trace claim known a raw =
     let each = recursion_from_All (λ stage. IsRawColouring stage.colours) claim.chain raw in
-    let f = chain_fits claim.chain a.last each a.stages a.ends in
+    let f = chain_fits claim.version claim.chain a.last each known.steps a.stages a.ends in
     let p = last_partition claim each a in
     let size : a.last.partition.size ≡ claim.closure.size = sym (ap (λ (K : PairColouring). K.size) a.named) in
     record {
+      version = known.version;
       has_stage = f.has_stage;
-      stages = subst (λ n. AllByRecursion (IsTraceStage n) claim.chain) size f.stages;
+      stages = subst (λ n. AllByRecursion (IsTraceStage claim.version n) claim.chain) size f.stages;
       closure = subst IsRawColouring (sym a.named) (partition_raw (named_of a.last.partition) (IsPartition-named_of a.last.partition p.colouring) f.limit);
     }

@@ -18,24 +18,24 @@ use Rattle.trace_text.specs.Reading.{IsFaultOf, after_line, after_place, rows_fa
 use Rattle.trace_text.proofs.RowPlaces.{row_at, stage_rows, matrix_fault, matrix_clean}
 
 -- these stages were read, the first without its line, and the line that ends the last
-pub record ReadsChain (n line0 : ℕ) (lines0 : List (List ℕ)) (line : ℕ) (lines : List (List ℕ)) (chain : List Stage) (after : After) : Type 0 where
+pub record ReadsChain (v n line0 : ℕ) (lines0 : List (List ℕ)) (line : ℕ) (lines : List (List ℕ)) (chain : List Stage) (after : After) : Type 0 where
   pub lines_are : codes "stage" ∷ lines0 ≡ flat_map stage_lines chain ++ (after_line after ∷ lines)
-  pub stages : AllByRecursion (IsTraceStage n) chain
-  pub faults : fault_from line0 (next_row n n) lines0 ≡ fault_from line (after_place n after) lines
+  pub stages : AllByRecursion (IsTraceStage v n) chain
+  pub faults : fault_from line0 (next_row v n n) lines0 ≡ fault_from line (after_place v n after) lines
 
 -- the faults of a stage are those after its rows
-pub stage_faults : (n line0 line next : ℕ) (lines0 lines rest : List (List ℕ)) (chain : List Stage) (C : PairColouring) → ReadsChain n line0 lines0 line lines chain ends.Stage
+pub stage_faults : (v n line0 line next : ℕ) (lines0 lines rest : List (List ℕ)) (chain : List Stage) (C : PairColouring) → ReadsChain v n line0 lines0 line lines chain ends.Stage
     → C.size ≡ n → rows_fault n n line lines ≡ None → lines ≡ matrix_lines C ++ rest → next ≡ line + n
-    → fault_from line0 (next_row n n) lines0 ≡ fault_from next (at_body n) rest
-stage_faults n line0 line next lines0 lines rest chain C r size clean rows number =
-    r.faults ∙ matrix_clean n line next lines rest (next_row n) C (stage_rows n) clean rows size number
+    → fault_from line0 (next_row v n n) lines0 ≡ fault_from next (at_body v n) rest
+stage_faults v n line0 line next lines0 lines rest chain C r size clean rows number =
+    r.faults ∙ matrix_clean n line next lines rest (next_row v n) C (stage_rows v n) clean rows size number
 
 -- one stage more
-pub chain_more : (n line0 line next last : ℕ) (lines0 lines rest left : List (List ℕ)) (chain : List Stage) (C : PairColouring) (steps : List Step) (after : After) → ReadsChain n line0 lines0 line lines chain ends.Stage
+pub chain_more : (v n line0 line next last : ℕ) (lines0 lines rest left : List (List ℕ)) (chain : List Stage) (C : PairColouring) (steps : List Step) (after : After) → ReadsChain v n line0 lines0 line lines chain ends.Stage
     → C.size ≡ n → IsRawColouring C → rows_fault n n line lines ≡ None → lines ≡ matrix_lines C ++ rest → next ≡ line + n
-    → AllByRecursion IsTraceStep steps → rest ≡ map step_line steps ++ (after_line after ∷ left) → ((m : ℕ) → fault_from next (at_body m) rest ≡ fault_from last (after_place m after) left)
-    → ReadsChain n line0 lines0 last left (chain ++ record { colours = C; steps = steps } ∷ []) after
-chain_more n line0 line next last lines0 lines rest left chain C steps after r size raw clean rows number small body faults =
+    → AllByRecursion (IsTraceStep v) steps → rest ≡ map step_line steps ++ (after_line after ∷ left) → ((m : ℕ) → fault_from next (at_body v m) rest ≡ fault_from last (after_place v m after) left)
+    → ReadsChain v n line0 lines0 last left (chain ++ record { colours = C; steps = steps } ∷ []) after
+chain_more v n line0 line next last lines0 lines rest left chain C steps after r size raw clean rows number small body faults =
     let stage : Stage = record { colours = C; steps = steps } in
     let before = flat_map stage_lines chain in
     let tail = after_line after ∷ left in
@@ -46,17 +46,17 @@ chain_more n line0 line next last lines0 lines rest left chain C steps after r s
           ∙ ap (λ l. flat_map stage_lines chain ++ l) own
           ∙ sym (append_assoc before (stage_lines stage) tail)
           ∙ ap (λ l. l ++ tail) (ap (λ l. before ++ l) (sym (append-nil (stage_lines stage))) ∙ sym (flat_map-append stage_lines chain (stage ∷ [])));
-      stages = Each-append (IsTraceStage n) chain (stage ∷ []) r.stages (record { points = size; colours = raw; steps = small }, tt);
-      faults = stage_faults n line0 line next lines0 lines rest chain C r size clean rows number ∙ faults n;
+      stages = Each-append (IsTraceStage v n) chain (stage ∷ []) r.stages (record { points = size; colours = raw; steps = small }, tt);
+      faults = stage_faults v n line0 line next lines0 lines rest chain C r size clean rows number ∙ faults n;
     }
 
 -- a fault in the rows of the next stage, and one in its steps
-pub chain_row_fault : (n line0 line : ℕ) (lines0 lines : List (List ℕ)) (chain : List Stage) (fault : TraceFault) → ReadsChain n line0 lines0 line lines chain ends.Stage
-    → IsFaultOf fault (option_map row_at (rows_fault n n line lines)) → IsFaultOf fault (fault_from line0 (next_row n n) lines0)
-chain_row_fault n line0 line lines0 lines chain fault r e = subst (IsFaultOf fault) (sym r.faults) (matrix_fault n line lines (next_row n) (stage_rows n) fault e)
+pub chain_row_fault : (v n line0 line : ℕ) (lines0 lines : List (List ℕ)) (chain : List Stage) (fault : TraceFault) → ReadsChain v n line0 lines0 line lines chain ends.Stage
+    → IsFaultOf fault (option_map row_at (rows_fault n n line lines)) → IsFaultOf fault (fault_from line0 (next_row v n n) lines0)
+chain_row_fault v n line0 line lines0 lines chain fault r e = subst (IsFaultOf fault) (sym r.faults) (matrix_fault n line lines (next_row v n) (stage_rows v n) fault e)
 
-pub chain_step_fault : (n line0 line next : ℕ) (lines0 lines rest : List (List ℕ)) (chain : List Stage) (C : PairColouring) (fault : TraceFault) → ReadsChain n line0 lines0 line lines chain ends.Stage
+pub chain_step_fault : (v n line0 line next : ℕ) (lines0 lines rest : List (List ℕ)) (chain : List Stage) (C : PairColouring) (fault : TraceFault) → ReadsChain v n line0 lines0 line lines chain ends.Stage
     → C.size ≡ n → rows_fault n n line lines ≡ None → lines ≡ matrix_lines C ++ rest → next ≡ line + n
-    → IsFaultOf fault (fault_from next (at_body n) rest) → IsFaultOf fault (fault_from line0 (next_row n n) lines0)
-chain_step_fault n line0 line next lines0 lines rest chain C fault r size clean rows number e =
-    subst (IsFaultOf fault) (sym (stage_faults n line0 line next lines0 lines rest chain C r size clean rows number)) e
+    → IsFaultOf fault (fault_from next (at_body v n) rest) → IsFaultOf fault (fault_from line0 (next_row v n n) lines0)
+chain_step_fault v n line0 line next lines0 lines rest chain C fault r size clean rows number e =
+    subst (IsFaultOf fault) (sym (stage_faults v n line0 line next lines0 lines rest chain C r size clean rows number)) e

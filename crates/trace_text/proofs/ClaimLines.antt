@@ -11,10 +11,11 @@ use Rattle.pair_colours.specs.Colouring.{PairColouring, IsColouring, colour_at, 
 use Rattle.trace_text.specs.declared.stage_list.Stage.{Stage}
 use Rattle.trace_text.specs.declared.stage_list.Claim.{Claim}
 use Rattle.trace_text.specs.TraceText.{step_line, matrix_lines, stage_lines, trace_lines}
-use Rattle.trace_text.specs.TraceFault.{at_head}
+use Rattle.trace_text.specs.TraceFault.{at_points}
+use Rattle.trace_text.specs.Versions.{IsVersion}
 use Rattle.trace_text.specs.ClaimTexts.{IsTraceStage, FitsTrace}
 use Rattle.trace_text.proofs.RawNumbers.{raw_each, raw_from}
-use Rattle.trace_text.proofs.LinesLeft.{Left, rows_of, stage_shown, shown, Fits}
+use Rattle.trace_text.proofs.LinesLeft.{Left, rows_of, stage_shown, points_shown, Fits}
 
 -- the numbers of a row
 row_numbers : (C : PairColouring) (x : ℕ) → IsColouring C → x < C.size → map (λ y. colour_at C x y) (points C.size) ≡ take C.size (drop (x * C.size) C.colours)
@@ -44,19 +45,19 @@ matrix_shown C c = rows_from C C.size 0 c (omega arith) ∙ ap (λ m. rows_of C.
 stage_lines-shown : (s : Stage) → IsColouring s.colours → stage_lines s ≡ stage_shown s
 stage_lines-shown s c = ap (λ m. codes "stage" ∷ (m ++ map step_line s.steps)) (matrix_shown s.colours c)
 
-chain_lines-shown : (n : ℕ) (chain : List Stage) → AllByRecursion (IsTraceStage n) chain → flat_map stage_lines chain ≡ flat_map stage_shown chain
-chain_lines-shown n [] a = refl
-chain_lines-shown n (s ∷ chain) a = λ i. stage_lines-shown s a.0.colours.fits.colouring i ++ chain_lines-shown n chain a.1 i
+chain_lines-shown : (v n : ℕ) (chain : List Stage) → AllByRecursion (IsTraceStage v n) chain → flat_map stage_lines chain ≡ flat_map stage_shown chain
+chain_lines-shown v n [] a = refl
+chain_lines-shown v n (s ∷ chain) a = λ i. stage_lines-shown s a.0.colours.fits.colouring i ++ chain_lines-shown v n chain a.1 i
 
--- what a claim says, and the claim that is said
+-- what a claim says after its version
 abbrev pub left_of : Claim → Left
 left_of claim = record { size = claim.closure.size; numbers = []; steps = []; chain = claim.chain; closure = claim.closure.colours }
 
--- the claim that is said
-abbrev pub claim_of : Left → Claim
-claim_of r = record { chain = r.chain; closure = record { size = r.size; colours = r.closure } }
+-- the claim of a version that is said
+abbrev pub claim_of : ℕ → Left → Claim
+claim_of v r = record { version = v; chain = r.chain; closure = record { size = r.size; colours = r.closure } }
 
-pub claim_fits : (claim : Claim) → FitsTrace claim → Fits at_head (left_of claim)
+pub claim_fits : (claim : Claim) → FitsTrace claim → Fits (at_points claim.version) (left_of claim)
 claim_fits claim f = record {
   numbers = refl;
   steps = refl;
@@ -70,16 +71,21 @@ claim_fits claim f = record {
   };
 }
 
-pub fits_claim : (r : Left) → Fits at_head r → FitsTrace (claim_of r)
-fits_claim r f = record {
+pub fits_claim : (v : ℕ) (r : Left) → IsVersion v → Fits (at_points v) r → FitsTrace (claim_of v r)
+fits_claim v r known f = record {
+  version = known;
   has_stage = f.has_stage;
   stages = f.rest.stages;
   closure = raw_from (record { size = r.size; colours = r.closure }) (record { has_points = f.rest.some; has_pairs = f.rest.count }) f.rest.few f.rest.small;
 }
 
-pub claim_lines : (claim : Claim) → FitsTrace claim → trace_lines claim ≡ shown at_head (left_of claim)
+-- the first line of a claim
+abbrev pub version_line : ℕ → List ℕ
+version_line v = codes "trace " ++ decimal v
+
+pub claim_lines : (claim : Claim) → FitsTrace claim → trace_lines claim ≡ version_line claim.version ∷ points_shown (left_of claim)
 claim_lines claim f =
-    let chain = chain_lines-shown claim.closure.size claim.chain f.stages in
+    let chain = chain_lines-shown claim.version claim.closure.size claim.chain f.stages in
     let closure = matrix_shown claim.closure f.closure.fits.colouring in
-    ap (λ l. codes "trace 1" ∷ (codes "points " ++ decimal claim.closure.size) ∷ l) (append_assoc (flat_map stage_lines claim.chain) (codes "closure" ∷ matrix_lines claim.closure) (codes "end" ∷ []))
-    ∙ (λ i. codes "trace 1" ∷ (codes "points " ++ decimal claim.closure.size) ∷ (chain i ++ (codes "closure" ∷ (closure i ++ (codes "end" ∷ [])))))
+    ap (λ l. version_line claim.version ∷ (codes "points " ++ decimal claim.closure.size) ∷ l) (append_assoc (flat_map stage_lines claim.chain) (codes "closure" ∷ matrix_lines claim.closure) (codes "end" ∷ []))
+    ∙ (λ i. version_line claim.version ∷ (codes "points " ++ decimal claim.closure.size) ∷ (chain i ++ (codes "closure" ∷ (closure i ++ (codes "end" ∷ [])))))

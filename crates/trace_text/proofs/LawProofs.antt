@@ -1,10 +1,12 @@
 -- The proofs of the laws, under the names by which crates above cite them.
-use Rattle.trace_text.specs.Law.{SplitIsPartition, SplitRefines, SplitRank, PartsOneClass, PartsTwoKeys, SplitKeepsCoherent, MeetIsNamedMeet, AcceptedIsClosure, ClosureOfMeet, StepsExist, VerdictExists, AcceptedHasNone, FirstBadLineIsUnique, TraceReadsOrFails, ReadingHasNoFault, ReadingIsUnique, TextIsReadBack, TextIsOfOneClaim, AcceptedFitsTrace, AcceptedTextFits}
+use Rattle.trace_text.specs.Law.{SplitIsPartition, SplitRefines, SplitRank, PartsOneClass, PartsTwoKeys, SplitKeepsCoherent, MeetIsNamedMeet, AcceptedIsClosure, ClosureOfMeet, StepsExist, VerdictExists, AcceptedHasNone, FirstBadLineIsUnique, TraceReadsOrFails, ReadingHasNoFault, ReadingIsUnique, TextIsReadBack, TextIsOfOneClaim, AcceptedFitsTrace, AcceptedTextFits, RoundIsIdleOnCoherent, RoundChainEndsCoherent, RoundChainExists, RoundChainIsUnique, RoundChainIsOfColours, RoundClaimIsAccepted}
 use Rattle.trace_text.proofs.Splits as splits
 use Rattle.trace_text.proofs.OneClass as one_class
 use Rattle.trace_text.proofs.Meeting as meeting
 use Rattle.trace_text.proofs.Reaching as reaching
+use Rattle.trace_text.proofs.RoundSteps as round_steps
 use Rattle.trace_text.proofs.Stages as stages
+use Rattle.trace_text.proofs.RoundChains as round_chains
 use Rattle.trace_text.proofs.Verdicts as verdicts
 use Rattle.trace_text.proofs.TraceReadings as readings
 use Rattle.trace_text.proofs.AcceptedTexts as accepted
@@ -41,6 +43,27 @@ closure_of_meet = meeting.closure_of_meet
 -- every partition reaches a coherent one
 pub steps_exist : StepsExist
 steps_exist = reaching.steps_exist
+
+-- a round is idle exactly on a coherent partition, so that a chain of rounds ends at one
+pub round_is_idle_on_coherent : RoundIsIdleOnCoherent
+round_is_idle_on_coherent = round_steps.round_is_idle_on_coherent
+
+pub round_chain_ends_coherent : RoundChainEndsCoherent
+round_chain_ends_coherent = round_chains.round_chain_ends_coherent
+
+-- each chain whose colours follow one another has one chain of rounds, by its colours
+pub round_chain_exists : RoundChainExists
+round_chain_exists = round_chains.round_chain_exists
+
+pub round_chain_is_unique : RoundChainIsUnique
+round_chain_is_unique = round_chains.round_chain_is_unique
+
+pub round_chain_is_of_colours : RoundChainIsOfColours
+round_chain_is_of_colours = round_chains.round_chain_is_of_colours
+
+-- and that of an accepted claim has the same closure
+pub round_claim_is_accepted : RoundClaimIsAccepted
+round_claim_is_accepted = round_chains.round_claim_is_accepted
 
 -- an accepted claim is the closure of its last stage
 pub accepted_is_closure : AcceptedIsClosure

@@ -16,12 +16,13 @@ use Rattle.pair_colours.proofs.ListLemmas.{Each-map, Each-weaker, Each-points}
 use Rattle.pair_colours.proofs.Places.{place_below}
 use Rattle.trace_text.specs.declared.limits.TheConstants.{MOST_STEP_NUMBER, MOST_TRACE}
 use Rattle.trace_text.specs.declared.step_list.Step.{Step}
-use Rattle.trace_text.specs.declared.step_list.Step.TheVariants.{Diag, Flip, Tri}
+use Rattle.trace_text.specs.declared.step_list.Step.TheVariants.{Diag, Flip, Tri, Round}
 use Rattle.trace_text.specs.declared.stage_list.Stage.{Stage}
 use Rattle.trace_text.specs.declared.stage_list.Claim.{Claim}
 use Rattle.trace_text.specs.Limits.{most_stages}
 use Rattle.trace_text.specs.Acceptance.{Accepts, step_count}
 use Rattle.trace_text.specs.TraceText.{step_line, matrix_lines, stage_lines, trace_lines, trace_text}
+use Rattle.trace_text.specs.Versions.{IsVersioned}
 use Rattle.trace_text.specs.ClaimTexts.{IsTraceStep, IsTraceStage}
 use Rattle.trace_text.proofs.AcceptedTexts.{accepted_fits_trace}
 use Rattle.trace_text.proofs.Conditions.{Each-parts}
@@ -112,16 +113,17 @@ named-le (n ∷ ns) a =
       length-append (codes " ") (decimal n),
     )
 
-step-le : (s : Step) → IsTraceStep s → length (step_line s) < step_room
-step-le (Diag k) a = omega (arith, named-le (k ∷ []) a, length-append (codes "D") (flat_map (λ number. codes " " ++ decimal number) (k ∷ [])))
-step-le (Flip k i) a = omega (arith, named-le (k ∷ i ∷ []) a, length-append (codes "F") (flat_map (λ number. codes " " ++ decimal number) (k ∷ i ∷ [])))
-step-le (Tri k i j) a = omega (arith, named-le (k ∷ i ∷ j ∷ []) a, length-append (codes "T") (flat_map (λ number. codes " " ++ decimal number) (k ∷ i ∷ j ∷ [])))
+step-le : (v : ℕ) (s : Step) → IsTraceStep v s → length (step_line s) < step_room
+step-le v (Diag k) a = omega (arith, named-le (k ∷ []) a.numbers, length-append (codes "D") (flat_map (λ number. codes " " ++ decimal number) (k ∷ [])))
+step-le v (Flip k i) a = omega (arith, named-le (k ∷ i ∷ []) a.numbers, length-append (codes "F") (flat_map (λ number. codes " " ++ decimal number) (k ∷ i ∷ [])))
+step-le v (Tri k i j) a = omega (arith, named-le (k ∷ i ∷ j ∷ []) a.numbers, length-append (codes "T") (flat_map (λ number. codes " " ++ decimal number) (k ∷ i ∷ j ∷ [])))
+step-le v Round a = omega (arith, length-append (codes "R") [])
 
 -- a stage, and stages
-stage-le : (n : ℕ) (stage : Stage) → IsTraceStage n stage → size_of_lines (stage_lines stage) ≤ 6 + matrix_room + step_room * length stage.steps
-stage-le n stage h =
+stage-le : (v n : ℕ) (stage : Stage) → IsTraceStage v n stage → size_of_lines (stage_lines stage) ≤ 6 + matrix_room + step_room * length stage.steps
+stage-le v n stage h =
     let s = lines-le step_room (map step_line stage.steps)
-    (Each-map (λ line. length line < step_room) step_line stage.steps (Each-weaker IsTraceStep (λ s. length (step_line s) < step_room) step-le stage.steps h.steps)) in
+    (Each-map (λ line. length line < step_room) step_line stage.steps (Each-weaker (IsTraceStep v) (λ s. length (step_line s) < step_room) (step-le v) stage.steps h.steps)) in
     omega (
       arith,
       matrix-le stage.colours h.colours,
@@ -131,13 +133,13 @@ stage-le n stage h =
       sum_by-cons (λ line. length (line ++ codes "\n")) (codes "stage") (matrix_lines stage.colours ++ map step_line stage.steps),
     )
 
-stages-le : (n : ℕ) (stages : List Stage) → AllByRecursion (IsTraceStage n) stages → size_of_lines (flat_map stage_lines stages) ≤ (6 + matrix_room) * length stages + step_room * step_count stages
-stages-le n [] a = omega arith
-stages-le n (stage ∷ rest) a =
+stages-le : (v n : ℕ) (stages : List Stage) → AllByRecursion (IsTraceStage v n) stages → size_of_lines (flat_map stage_lines stages) ≤ (6 + matrix_room) * length stages + step_room * step_count stages
+stages-le v n [] a = omega arith
+stages-le v n (stage ∷ rest) a =
     omega (
       arith,
-      stage-le n stage a.0,
-      stages-le n rest a.1,
+      stage-le v n stage a.0,
+      stages-le v n rest a.1,
       lines-append (stage_lines stage) (flat_map stage_lines rest),
       sum_by-cons (λ one. length one.steps) stage rest,
     )
@@ -160,10 +162,10 @@ few_steps_in_all claim a some raw =
       mul-le cut.1.colours.size cut.1.colours.size MOST_POINTS MOST_POINTS n n,
     )
 
-pub accepted_text_fits : (claim : Claim) → Accepts claim → length claim.chain ≤ most_stages → All (λ stage. IsRawColouring stage.colours) claim.chain → length (trace_text claim) ≤ MOST_TRACE
-accepted_text_fits claim a few raw =
-    let f = accepted_fits_trace claim a raw in
-    let head = codes "trace 1" in
+pub accepted_text_fits : (claim : Claim) → IsVersioned claim → Accepts claim → length claim.chain ≤ most_stages → All (λ stage. IsRawColouring stage.colours) claim.chain → length (trace_text claim) ≤ MOST_TRACE
+accepted_text_fits claim known a few raw =
+    let f = accepted_fits_trace claim known a raw in
+    let head = codes "trace " ++ decimal claim.version in
     let size = codes "points " ++ decimal claim.closure.size in
     let chain = flat_map stage_lines claim.chain in
     let rows = matrix_lines claim.closure in
@@ -172,13 +174,16 @@ accepted_text_fits claim a few raw =
       length-flat_map (λ line. line ++ codes "\n") (trace_lines claim),
       few_steps_in_all claim a f.has_stage (recursion_from_All (λ stage. IsRawColouring stage.colours) claim.chain raw),
       matrix-le claim.closure f.closure,
-      stages-le claim.closure.size claim.chain f.stages,
+      stages-le claim.version claim.closure.size claim.chain f.stages,
       few,
       sum_by-cons (λ line. length (line ++ codes "\n")) head (size ∷ chain ++ codes "closure" ∷ rows ++ codes "end" ∷ []),
       sum_by-cons (λ line. length (line ++ codes "\n")) size (chain ++ codes "closure" ∷ rows ++ codes "end" ∷ []),
       lines-append (chain ++ codes "closure" ∷ rows) (codes "end" ∷ []),
       lines-append chain (codes "closure" ∷ rows),
       sum_by-cons (λ line. length (line ++ codes "\n")) (codes "closure") rows,
+      line_end head,
+      length-append (codes "trace ") (decimal claim.version),
+      few_digits claim.version (omega (arith, known.version.most)),
       line_end size,
       length-append (codes "points ") (decimal claim.closure.size),
       few_digits claim.closure.size (omega (arith, f.closure.fits.limit)),

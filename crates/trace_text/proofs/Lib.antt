@@ -1,14 +1,16 @@
 pub mod LawProofs
-mod Below
+pub mod Below
 pub mod Partitions
-mod Parting
+pub mod Parting
 mod OneClass
 pub mod Ranks
 pub mod Splits
 pub mod Leads
 pub mod Reaching
 pub mod Meeting
+pub mod RoundSteps
 pub mod Stages
+pub mod RoundChains
 pub mod Decided
 pub mod Conditions
 pub mod Verdicts

@@ -18,19 +18,18 @@ use Rattle.text_lines.proofs.Numbers.{digit_numerals}
 use Rattle.pair_colours.specs.declared.coloured_pairs.TheConstants.{MOST_COLOUR}
 use Rattle.pair_colours.proofs.ListLemmas.{Each-append, Each-map, Each-weaker}
 use Rattle.trace_text.specs.declared.step_list.Step.{Step}
-use Rattle.trace_text.specs.declared.step_list.Step.TheVariants.{Diag, Flip, Tri}
+use Rattle.trace_text.specs.declared.step_list.Step.TheVariants.{Diag, Flip, Tri, Round}
 use Rattle.trace_text.specs.declared.stage_list.Stage.{Stage}
 use Rattle.trace_text.specs.declared.stage_list.Claim.{Claim}
 use Rattle.trace_text.specs.declared.limits.TheConstants.{MOST_STEP_NUMBER}
 use Rattle.trace_text.specs.TraceText.{step_line, letter_of, trace_lines, trace_text}
 use Rattle.trace_text.specs.ClaimTexts.{IsTraceStep, IsTraceStage, FitsTrace}
-use Rattle.trace_text.specs.TraceFault.{at_head}
 use Rattle.trace_text.proofs.RawNumbers.{raw_each}
 use Rattle.trace_text.proofs.LineNumbers.{both, small_numbers}
 use Rattle.trace_text.specs.Split.{numbers_of}
 use Rattle.trace_text.proofs.LineReadings.{step_words, step_line-words}
-use Rattle.trace_text.proofs.LinesLeft.{rows_of, stage_shown, closure_shown, shown, cut_row}
-use Rattle.trace_text.proofs.ClaimLines.{claim_lines, left_of}
+use Rattle.trace_text.proofs.LinesLeft.{rows_of, stage_shown, closure_shown, points_shown, cut_row}
+use Rattle.trace_text.proofs.ClaimLines.{version_line, claim_lines, left_of}
 
 -- bytes that end no line
 abbrev pub IsHigh : List ℕ → Type 0
@@ -111,34 +110,36 @@ rows_plain n (suc k) numbers h e a =
     let cut = cut_row n k numbers e a in
     (row_plain (take n numbers) (omega (arith, cut.count, h)) cut.small, rows_plain n k (drop n numbers) h cut.others cut.rest)
 
-words_high : (s : Step) → IsTraceStep s → AllByRecursion IsHigh (step_words s)
-words_high s a = (letter s, decimals_high (numbers_of s) (small_numbers MOST_STEP_NUMBER (omega arith) (numbers_of s) a))
+words_high : (v : ℕ) (s : Step) → IsTraceStep v s → AllByRecursion IsHigh (step_words s)
+words_high v s a = (letter s, decimals_high (numbers_of s) (small_numbers MOST_STEP_NUMBER (omega arith) (numbers_of s) a.numbers))
   where
     letter : (t : Step) → IsHigh (letter_of t)
     letter (Diag k) = (omega arith, tt)
     letter (Flip k o) = (omega arith, tt)
     letter (Tri k l r) = (omega arith, tt)
+    letter Round = (omega arith, tt)
 
-step_plain : (s : Step) → IsTraceStep s → IsPlain (step_line s)
-step_plain s a = record { some = some s; high = subst IsHigh (sym (step_line-words s)) (joined_high (step_words s) (words_high s a)) }
+step_plain : (v : ℕ) (s : Step) → IsTraceStep v s → IsPlain (step_line s)
+step_plain v s a = record { some = some s; high = subst IsHigh (sym (step_line-words s)) (joined_high (step_words s) (words_high v s a)) }
   where
     some : (t : Step) → 0 < length (step_line t)
     some (Diag k) = omega arith
     some (Flip k o) = omega arith
     some (Tri k l r) = omega arith
+    some Round = omega arith
 
-stage_plain : (n : ℕ) (s : Stage) → IsTraceStage n s → AllByRecursion IsPlain (stage_shown s)
-stage_plain n s h =
+stage_plain : (v n : ℕ) (s : Stage) → IsTraceStage v n s → AllByRecursion IsPlain (stage_shown s)
+stage_plain v n s h =
     let c = h.colours.fits.colouring in (
       literal (codes "stage") refl (omega arith),
       Each-append IsPlain (rows_of s.colours.size s.colours.size s.colours.colours) (map step_line s.steps)
           (rows_plain s.colours.size s.colours.size s.colours.colours c.has_points c.has_pairs (raw_each s.colours h.colours))
-          (Each-map IsPlain step_line s.steps (Each-weaker IsTraceStep (λ t. IsPlain (step_line t)) step_plain s.steps h.steps)),
+          (Each-map IsPlain step_line s.steps (Each-weaker (IsTraceStep v) (λ t. IsPlain (step_line t)) (step_plain v) s.steps h.steps)),
     )
 
-chain_plain : (n : ℕ) (chain : List Stage) → AllByRecursion (IsTraceStage n) chain → AllByRecursion IsPlain (flat_map stage_shown chain)
-chain_plain n [] a = tt
-chain_plain n (s ∷ chain) a = Each-append IsPlain (stage_shown s) (flat_map stage_shown chain) (stage_plain n s a.0) (chain_plain n chain a.1)
+chain_plain : (v n : ℕ) (chain : List Stage) → AllByRecursion (IsTraceStage v n) chain → AllByRecursion IsPlain (flat_map stage_shown chain)
+chain_plain v n [] a = tt
+chain_plain v n (s ∷ chain) a = Each-append IsPlain (stage_shown s) (flat_map stage_shown chain) (stage_plain v n s a.0) (chain_plain v n chain a.1)
 
 closure_plain : (n : ℕ) (closure : List ℕ) → 1 ≤ n → length closure ≡ n * n → AllByRecursion (λ c. c ≤ MOST_COLOUR) closure → AllByRecursion IsPlain (closure_shown n closure)
 closure_plain n closure h e a = (
@@ -149,13 +150,16 @@ closure_plain n closure h e a = (
 points_high : (n : ℕ) → n < 2 ^ 32 → IsHigh (codes "points " ++ decimal n)
 points_high n h = Each-append (λ b. 13 < b) (codes "points ") (decimal n) (high_test (codes "points ") refl) (decimal_high n h)
 
-claim_plain : (claim : Claim) → FitsTrace claim → AllByRecursion IsPlain (shown at_head (left_of claim))
+version_plain : (v : ℕ) → v < 2 ^ 32 → IsPlain (version_line v)
+version_plain v h = record { some = omega arith; high = Each-append (λ b. 13 < b) (codes "trace ") (decimal v) (high_test (codes "trace ") refl) (decimal_high v h) }
+
+claim_plain : (claim : Claim) → FitsTrace claim → AllByRecursion IsPlain (version_line claim.version ∷ points_shown (left_of claim))
 claim_plain claim f =
     let c = f.closure.fits.colouring in (
-      literal (codes "trace 1") refl (omega arith),
+      version_plain claim.version (omega (arith, f.version.most)),
       (
         record { some = omega arith; high = points_high claim.closure.size (omega (arith, f.closure.fits.limit)) },
-        Each-append IsPlain (flat_map stage_shown claim.chain) (closure_shown claim.closure.size claim.closure.colours) (chain_plain claim.closure.size claim.chain f.stages)
+        Each-append IsPlain (flat_map stage_shown claim.chain) (closure_shown claim.closure.size claim.closure.colours) (chain_plain claim.version claim.closure.size claim.chain f.stages)
             (closure_plain claim.closure.size claim.closure.colours c.has_points c.has_pairs (raw_each claim.closure f.closure)),
       ),
     )

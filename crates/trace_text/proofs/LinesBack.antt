@@ -30,22 +30,22 @@ lets t one next e = let two = some_from t (Some one) next e in record { holds = 
 moved : (place : Place) (line : List ℕ) (one next : Place) (after r : Left) → one ≡ next → (Fits one after → BackTo place line one after r) → Fits next after → BackTo place line next after r
 moved place line one next after r e f = subst (λ nx. Fits nx after → BackTo place line nx after r) e f
 
-back_stage : (n : ℕ) (line : List ℕ) (after : Left) → bytes_eq line (codes "stage") ≡ true → FitsRows n n after → BackTo (at_stage n) line (next_row n n) after (with_stage n after)
-back_stage n line after e f = record {
-  shows = stage_shows n after ∙ ap (λ l. l ∷ shown (next_row n n) after) (sym (bytes_same line (codes "stage") e));
-  fits = (refl, stage_fits n after f);
+back_stage : (v n : ℕ) (line : List ℕ) (after : Left) → bytes_eq line (codes "stage") ≡ true → FitsRows v n n after → BackTo (at_stage v n) line (next_row v n n) after (with_stage n after)
+back_stage v n line after e f = record {
+  shows = stage_shows v n after ∙ ap (λ l. l ∷ shown (next_row v n n) after) (sym (bytes_same line (codes "stage") e));
+  fits = (refl, stage_fits v n after f);
 }
 
-back_body_stage : (n : ℕ) (line : List ℕ) (after : Left) → bytes_eq line (codes "stage") ≡ true → FitsRows n n after → BackTo (at_body n) line (next_row n n) after (with_stage n after)
-back_body_stage n line after e f =
-    let s = stage_fits n after f in
+back_body_stage : (v n : ℕ) (line : List ℕ) (after : Left) → bytes_eq line (codes "stage") ≡ true → FitsRows v n n after → BackTo (at_body v n) line (next_row v n n) after (with_stage n after)
+back_body_stage v n line after e f =
+    let s = stage_fits v n after f in
     record {
-      shows = stage_shows n after ∙ ap (λ l. l ∷ shown (next_row n n) after) (sym (bytes_same line (codes "stage") e));
+      shows = stage_shows v n after ∙ ap (λ l. l ∷ shown (next_row v n n) after) (sym (bytes_same line (codes "stage") e));
       fits = record { size = refl; has = omega arith; each = tt; steps = tt; rest = s.rest };
     }
 
-back_body_closure : (n : ℕ) (line : List ℕ) (after : Left) → bytes_eq line (codes "closure") ≡ true → 1 ≤ n → n ≤ MOST_POINTS → FitsClosure n n after → BackTo (at_body n) line (next_closure_row n n) after after
-back_body_closure n line after e some few f = record {
+back_body_closure : (v n : ℕ) (line : List ℕ) (after : Left) → bytes_eq line (codes "closure") ≡ true → 1 ≤ n → n ≤ MOST_POINTS → FitsClosure n n after → BackTo (at_body v n) line (next_closure_row n n) after after
+back_body_closure v n line after e some few f = record {
   shows =
       ap (λ steps. map step_line steps ++ chain_shown n after) f.steps
       ∙ ap (λ chain. flat_map stage_shown chain ++ closure_shown n after.closure) f.chain
@@ -55,14 +55,14 @@ back_body_closure n line after e some few f = record {
     size = f.size;
     has = ap length f.numbers ∙ omega arith;
     each = subst (AllByRecursion (λ c. c ≤ MOST_COLOUR)) (sym f.numbers) tt;
-    steps = subst (AllByRecursion IsTraceStep) (sym f.steps) tt;
-    rest = record { some = some; few = few; stages = subst (AllByRecursion (IsTraceStage n)) (sym f.chain) tt; count = f.count; small = f.small };
+    steps = subst (AllByRecursion (IsTraceStep v)) (sym f.steps) tt;
+    rest = record { some = some; few = few; stages = subst (AllByRecursion (IsTraceStage v n)) (sym f.chain) tt; count = f.count; small = f.small };
   };
 }
 
-back_body_step : (n : ℕ) (line : List ℕ) (after : Left) → is_step_line line ≡ true → FitsRows n 0 after → BackTo (at_body n) line (at_body n) after (with_step (step_in line) after)
-back_body_step n line after e f =
-    let s = step_back line e in
+back_body_step : (v n : ℕ) (line : List ℕ) (after : Left) → is_step_line v line ≡ true → FitsRows v n 0 after → BackTo (at_body v n) line (at_body v n) after (with_step (step_in line) after)
+back_body_step v n line after e f =
+    let s = step_back v line e in
     record {
       shows = ap (λ l. l ∷ body_shown n after) (sym s.spelled);
       fits = record { size = f.size; has = f.has; each = f.each; steps = (s.small, f.steps); rest = record { some = f.rest.some; few = f.rest.few; stages = f.rest.stages; count = f.rest.count; small = f.rest.small } };
@@ -81,11 +81,11 @@ rows_more n k line xs ys row = λ i. (ap spaced (taken n xs ys row.count) ∙ sy
 count_more : (n k : ℕ) (xs ys : List ℕ) → length xs ≡ n → length ys ≡ k * n → length (xs ++ ys) ≡ suc k * n
 count_more n k xs ys e f = omega (arith, length-append xs ys, e, f)
 
-back_row : (n k : ℕ) (line : List ℕ) (after : Left) → is_row_line n line ≡ true → FitsRows n k after → BackTo (at_row n k) line (next_row n k) after (with_numbers (numbers_in line) after)
-back_row n k line after e f =
+back_row : (v n k : ℕ) (line : List ℕ) (after : Left) → is_row_line n line ≡ true → FitsRows v n k after → BackTo (at_row v n k) line (next_row v n k) after (with_numbers (numbers_in line) after)
+back_row v n k line after e f =
     let row = row_back n line e in
     record {
-      shows = ap (λ l. l ++ body_shown n after) (rows_more n k line (numbers_in line) after.numbers row) ∙ ap (λ l. line ∷ l) (sym (next_row-shown n k after));
+      shows = ap (λ l. l ++ body_shown n after) (rows_more n k line (numbers_in line) after.numbers row) ∙ ap (λ l. line ∷ l) (sym (next_row-shown v n k after));
       fits = record {
         size = f.size;
         has = count_more n k (numbers_in line) after.numbers row.count f.has;
@@ -111,69 +111,68 @@ back_closure_row n k line after e f =
       };
     }
 
-back_points : (line : List ℕ) (n : ℕ) (after : Left) → points_on line ≡ Some n → Fits (at_stage n) after → BackTo at_points line (at_stage n) after (with_size (value (drop 7 line)) after)
-back_points line n after e f =
+back_points : (v : ℕ) (line : List ℕ) (n : ℕ) (after : Left) → points_on line ≡ Some n → Fits (at_stage v n) after → BackTo (at_points v) line (at_stage v n) after (with_size (value (drop 7 line)) after)
+back_points v line n after e f =
     let p = points_back line n e in
     let is : value (drop 7 line) ≡ n = ap (λ l. value (drop 7 l)) p.spelled ∙ value-decimal n (omega (arith, p.few)) in
     record {
-      shows = ap (λ v. points_shown (with_size v after)) is ∙ ap (λ l. l ∷ chain_shown n after) (sym p.spelled);
-      fits = subst (λ v. FitsStages v (with_size v after)) (sym is) (record { numbers = f.1.numbers; steps = f.1.steps; has_stage = f.1.has_stage; rest = record { some = f.1.rest.some; few = f.1.rest.few; stages = f.1.rest.stages; count = f.1.rest.count; small = f.1.rest.small } });
+      shows = ap (λ m. points_shown (with_size m after)) is ∙ ap (λ l. l ∷ chain_shown n after) (sym p.spelled);
+      fits = subst (λ m. FitsStages v m (with_size m after)) (sym is) (record { numbers = f.1.numbers; steps = f.1.steps; has_stage = f.1.has_stage; rest = record { some = f.1.rest.some; few = f.1.rest.few; stages = f.1.rest.stages; count = f.1.rest.count; small = f.1.rest.small } });
     }
 
-sized_is : (o : Option ℕ) (next : Place) → sized o ≡ Some next → (n : ℕ) × (o ≡ Some n) × (at_stage n ≡ next)
-sized_is None next e = absurd cc
-sized_is (Some n) next e = (n, refl, some_is (at_stage n) next e)
+sized_is : (v : ℕ) (o : Option ℕ) (next : Place) → sized v o ≡ Some next → (n : ℕ) × (o ≡ Some n) × (at_stage v n ≡ next)
+sized_is v None next e = absurd cc
+sized_is v (Some n) next e = (n, refl, some_is (at_stage v n) next e)
 
 -- a body line
-abbrev body_next : ℕ → Bool → Bool → Bool → Option Place
-body_next n a b c = cond a (Some (next_row n n)) (cond b (Some (next_closure_row n n)) (cond c (Some (at_body n)) None))
+abbrev body_next : ℕ → ℕ → Bool → Bool → Bool → Option Place
+body_next v n a b c = cond a (Some (next_row v n n)) (cond b (Some (next_closure_row n n)) (cond c (Some (at_body v n)) None))
 
-back_body : (n : ℕ) (line : List ℕ) (next : Place) (after : Left) → next_place (at_body n) line ≡ Some next → 1 ≤ n → n ≤ MOST_POINTS → Fits next after → Back (at_body n) line next after
-back_body n line next after e some few f =
+back_body : (v n : ℕ) (line : List ℕ) (next : Place) (after : Left) → next_place (at_body v n) line ≡ Some next → 1 ≤ n → n ≤ MOST_POINTS → Fits next after → Back (at_body v n) line next after
+back_body v n line next after e some few f =
     let a = bytes_eq line (codes "stage") in
     let b = bytes_eq line (codes "closure") in
-    let c = is_step_line line in
+    let c = is_step_line v line in
     let first = with_stage n after in
     let step = with_step (step_in line) after in
     elim (cases_Bool a) [
       | inl t ↦
-          let is = some_is (next_row n n) next (sym (ap (λ v. body_next n v b c) t) ∙ e) in
-          subst (BackTo (at_body n) line next after) (sym (ap (λ v. cond v first (cond b after step)) t))
-          (moved (at_body n) line (next_row n n) next after first is (λ g. back_body_stage n line after t (next_row-rows n n after g)) f)
+          let is = some_is (next_row v n n) next (sym (ap (λ w. body_next v n w b c) t) ∙ e) in
+          subst (BackTo (at_body v n) line next after) (sym (ap (λ w. cond w first (cond b after step)) t))
+          (moved (at_body v n) line (next_row v n n) next after first is (λ g. back_body_stage v n line after t (next_row-rows v n n after g)) f)
       | inr u ↦ elim (cases_Bool b) [
         | inl t ↦
-            let is = some_is (next_closure_row n n) next (sym (ap (λ v. body_next n v b c) u ∙ ap (λ v. body_next n false v c) t) ∙ e) in
-            subst (BackTo (at_body n) line next after) (sym (ap (λ v. cond v first (cond b after step)) u ∙ ap (λ v. cond v after step) t))
-            (moved (at_body n) line (next_closure_row n n) next after after is (λ g. back_body_closure n line after t some few (next_closure_row-closure n n after some g)) f)
-        | inr v ↦
-            let l = lets c (at_body n) next (sym (ap (λ w. body_next n w b c) u ∙ ap (λ w. body_next n false w c) v) ∙ e) in
-            subst (BackTo (at_body n) line next after) (sym (ap (λ w. cond w first (cond b after step)) u ∙ ap (λ w. cond w after step) v))
-            (moved (at_body n) line (at_body n) next after step l.is (λ g. back_body_step n line after l.holds g) f)
+            let is = some_is (next_closure_row n n) next (sym (ap (λ w. body_next v n w b c) u ∙ ap (λ w. body_next v n false w c) t) ∙ e) in
+            subst (BackTo (at_body v n) line next after) (sym (ap (λ w. cond w first (cond b after step)) u ∙ ap (λ w. cond w after step) t))
+            (moved (at_body v n) line (next_closure_row n n) next after after is (λ g. back_body_closure v n line after t some few (next_closure_row-closure n n after some g)) f)
+        | inr o ↦
+            let l = lets c (at_body v n) next (sym (ap (λ w. body_next v n w b c) u ∙ ap (λ w. body_next v n false w c) o) ∙ e) in
+            subst (BackTo (at_body v n) line next after) (sym (ap (λ w. cond w first (cond b after step)) u ∙ ap (λ w. cond w after step) o))
+            (moved (at_body v n) line (at_body v n) next after step l.is (λ g. back_body_step v n line after l.holds g) f)
       ]
     ]
 
--- the number of points of a place, if the place tells it, is in range
+-- the place is not that of the first line, and the number of points, if the place tells it, is in range
 abbrev pub InRange : Place → Type 0
-InRange (at_stage n) = (1 ≤ n) × (n ≤ MOST_POINTS)
-InRange (at_row n more) = (1 ≤ n) × (n ≤ MOST_POINTS)
-InRange (at_body n) = (1 ≤ n) × (n ≤ MOST_POINTS)
+InRange at_head = ⊥
+InRange (at_stage v n) = (1 ≤ n) × (n ≤ MOST_POINTS)
+InRange (at_row v n more) = (1 ≤ n) × (n ≤ MOST_POINTS)
+InRange (at_body v n) = (1 ≤ n) × (n ≤ MOST_POINTS)
 InRange (at_closure_row n more) = (1 ≤ n) × (n ≤ MOST_POINTS)
 InRange _ = ⊤
 
 pub back : (place : Place) (line : List ℕ) (next : Place) (after : Left) → InRange place → next_place place line ≡ Some next → Fits next after → Back place line next after
-back at_head line next after r e f =
-    let l = lets (bytes_eq line (codes "trace 1")) at_points next e in
-    moved at_head line at_points next after after l.is (λ g. record { shows = ap (λ m. m ∷ points_shown after) (sym (bytes_same line (codes "trace 1") l.holds)); fits = g }) f
-back at_points line next after r e f =
-    let s = sized_is (points_on line) next e in
-    moved at_points line (at_stage s.0) next after (with_size (value (drop 7 line)) after) s.2 (back_points line s.0 after s.1) f
-back (at_stage n) line next after r e f =
-    let l = lets (bytes_eq line (codes "stage")) (next_row n n) next e in
-    moved (at_stage n) line (next_row n n) next after (with_stage n after) l.is (λ g. back_stage n line after l.holds (next_row-rows n n after g)) f
-back (at_row n more) line next after r e f =
-    let l = lets (is_row_line n line) (next_row n more) next e in
-    moved (at_row n more) line (next_row n more) next after (with_numbers (numbers_in line) after) l.is (λ g. back_row n more line after l.holds (next_row-rows n more after g)) f
-back (at_body n) line next after r e f = back_body n line next after e r.0 r.1 f
+back at_head line next after r e f = absurd r
+back (at_points v) line next after r e f =
+    let s = sized_is v (points_on line) next e in
+    moved (at_points v) line (at_stage v s.0) next after (with_size (value (drop 7 line)) after) s.2 (back_points v line s.0 after s.1) f
+back (at_stage v n) line next after r e f =
+    let l = lets (bytes_eq line (codes "stage")) (next_row v n n) next e in
+    moved (at_stage v n) line (next_row v n n) next after (with_stage n after) l.is (λ g. back_stage v n line after l.holds (next_row-rows v n n after g)) f
+back (at_row v n more) line next after r e f =
+    let l = lets (is_row_line n line) (next_row v n more) next e in
+    moved (at_row v n more) line (next_row v n more) next after (with_numbers (numbers_in line) after) l.is (λ g. back_row v n more line after l.holds (next_row-rows v n more after g)) f
+back (at_body v n) line next after r e f = back_body v n line next after e r.0 r.1 f
 back (at_closure_row n more) line next after r e f =
     let l = lets (is_row_line n line) (next_closure_row n more) next e in
     moved (at_closure_row n more) line (next_closure_row n more) next after (with_closure (numbers_in line) after) l.is (λ g. back_closure_row n more line after l.holds (next_closure_row-closure n more after r.0 g)) f
@@ -183,28 +182,28 @@ back at_end line next after r e f =
 back at_extra line next after r e f = absurd cc
 
 -- and the next place is in range
-in_next_row : (n k : ℕ) → 1 ≤ n → n ≤ MOST_POINTS → InRange (next_row n k)
-in_next_row n zero h l = (h, l)
-in_next_row n (suc k) h l = (h, l)
+in_next_row : (v n k : ℕ) → 1 ≤ n → n ≤ MOST_POINTS → InRange (next_row v n k)
+in_next_row v n zero h l = (h, l)
+in_next_row v n (suc k) h l = (h, l)
 
 in_next_closure_row : (n k : ℕ) → 1 ≤ n → n ≤ MOST_POINTS → InRange (next_closure_row n k)
 in_next_closure_row n zero h l = tt
 in_next_closure_row n (suc k) h l = (h, l)
 
 pub next_in_range : (place : Place) (line : List ℕ) (next : Place) → InRange place → next_place place line ≡ Some next → InRange next
-next_in_range at_head line next r e = subst InRange (lets (bytes_eq line (codes "trace 1")) at_points next e).is tt
-next_in_range at_points line next r e = let s = sized_is (points_on line) next e in let p = points_back line s.0 s.1 in subst InRange s.2 (p.some, p.few)
-next_in_range (at_stage n) line next r e = subst InRange (lets (bytes_eq line (codes "stage")) (next_row n n) next e).is (in_next_row n n r.0 r.1)
-next_in_range (at_row n more) line next r e = subst InRange (lets (is_row_line n line) (next_row n more) next e).is (in_next_row n more r.0 r.1)
-next_in_range (at_body n) line next r e =
+next_in_range at_head line next r e = absurd r
+next_in_range (at_points v) line next r e = let s = sized_is v (points_on line) next e in let p = points_back line s.0 s.1 in subst InRange s.2 (p.some, p.few)
+next_in_range (at_stage v n) line next r e = subst InRange (lets (bytes_eq line (codes "stage")) (next_row v n n) next e).is (in_next_row v n n r.0 r.1)
+next_in_range (at_row v n more) line next r e = subst InRange (lets (is_row_line n line) (next_row v n more) next e).is (in_next_row v n more r.0 r.1)
+next_in_range (at_body v n) line next r e =
     let a = bytes_eq line (codes "stage") in
     let b = bytes_eq line (codes "closure") in
-    let c = is_step_line line in
+    let c = is_step_line v line in
     elim (cases_Bool a) [
-      | inl t ↦ subst InRange (some_is (next_row n n) next (sym (ap (λ v. body_next n v b c) t) ∙ e)) (in_next_row n n r.0 r.1)
+      | inl t ↦ subst InRange (some_is (next_row v n n) next (sym (ap (λ w. body_next v n w b c) t) ∙ e)) (in_next_row v n n r.0 r.1)
       | inr u ↦ elim (cases_Bool b) [
-        | inl t ↦ subst InRange (some_is (next_closure_row n n) next (sym (ap (λ v. body_next n v b c) u ∙ ap (λ v. body_next n false v c) t) ∙ e)) (in_next_closure_row n n r.0 r.1)
-        | inr v ↦ subst InRange (lets c (at_body n) next (sym (ap (λ w. body_next n w b c) u ∙ ap (λ w. body_next n false w c) v) ∙ e)).is (r.0, r.1)
+        | inl t ↦ subst InRange (some_is (next_closure_row n n) next (sym (ap (λ w. body_next v n w b c) u ∙ ap (λ w. body_next v n false w c) t) ∙ e)) (in_next_closure_row n n r.0 r.1)
+        | inr o ↦ subst InRange (lets c (at_body v n) next (sym (ap (λ w. body_next v n w b c) u ∙ ap (λ w. body_next v n false w c) o) ∙ e)).is (r.0, r.1)
       ]
     ]
 next_in_range (at_closure_row n more) line next r e = subst InRange (lets (is_row_line n line) (next_closure_row n more) next e).is (in_next_closure_row n more r.0 r.1)

@@ -55,10 +55,10 @@ with_size n after = record { size = n; numbers = after.numbers; steps = after.st
 -- what a line adds at its place
 abbrev pub decode_line : Place → List ℕ → Left → Left
 decode_line at_head line after = after
-decode_line at_points line after = with_size (value (drop 7 line)) after
-decode_line (at_stage n) line after = with_stage n after
-decode_line (at_row n more) line after = with_numbers (numbers_in line) after
-decode_line (at_body n) line after =
+decode_line (at_points v) line after = with_size (value (drop 7 line)) after
+decode_line (at_stage v n) line after = with_stage n after
+decode_line (at_row v n more) line after = with_numbers (numbers_in line) after
+decode_line (at_body v n) line after =
     cond (bytes_eq line (codes "stage")) (with_stage n after) (cond (bytes_eq line (codes "closure")) after (with_step (step_in line) after))
 decode_line (at_closure_row n more) line after = with_closure (numbers_in line) after
 decode_line at_end line after = after
@@ -99,32 +99,32 @@ body_shown n r = map step_line r.steps ++ chain_shown n r
 abbrev pub points_shown : Left → List (List ℕ)
 points_shown r = (codes "points " ++ decimal r.size) ∷ chain_shown r.size r
 
--- the lines from a place on that say this
+-- the lines from a place after the first line on that say this
 abbrev pub shown : Place → Left → List (List ℕ)
-shown at_head r = codes "trace 1" ∷ points_shown r
-shown at_points r = points_shown r
-shown (at_stage n) r = chain_shown n r
-shown (at_row n more) r = rows_of n (suc more) r.numbers ++ body_shown n r
-shown (at_body n) r = body_shown n r
+shown at_head r = []
+shown (at_points v) r = points_shown r
+shown (at_stage v n) r = chain_shown n r
+shown (at_row v n more) r = rows_of n (suc more) r.numbers ++ body_shown n r
+shown (at_body v n) r = body_shown n r
 shown (at_closure_row n more) r = rows_of n (suc more) r.closure ++ (codes "end" ∷ [])
 shown at_end r = codes "end" ∷ []
 shown at_extra r = []
 
--- the stages and the closure that are left have n points, and numbers within the limits
-pub record FitsChain (n : ℕ) (r : Left) : Type 0 where
+-- the stages and the closure that are left have n points, steps of version v, and numbers within the limits
+pub record FitsChain (v n : ℕ) (r : Left) : Type 0 where
   pub some : 1 ≤ n
   pub few : n ≤ MOST_POINTS
-  pub stages : AllByRecursion (IsTraceStage n) r.chain
+  pub stages : AllByRecursion (IsTraceStage v n) r.chain
   pub count : length r.closure ≡ n * n
   pub small : AllByRecursion (λ c. c ≤ MOST_COLOUR) r.closure
 
 -- it fits where k rows of a stage are to come
-pub record FitsRows (n k : ℕ) (r : Left) : Type 0 where
+pub record FitsRows (v n k : ℕ) (r : Left) : Type 0 where
   pub size : r.size ≡ 0
   pub has : length r.numbers ≡ k * n
   pub each : AllByRecursion (λ c. c ≤ MOST_COLOUR) r.numbers
-  pub steps : AllByRecursion IsTraceStep r.steps
-  pub rest : FitsChain n r
+  pub steps : AllByRecursion (IsTraceStep v) r.steps
+  pub rest : FitsChain v n r
 
 -- it fits where k rows of the closure are to come
 pub record FitsClosure (n k : ℕ) (r : Left) : Type 0 where
@@ -137,19 +137,19 @@ pub record FitsClosure (n k : ℕ) (r : Left) : Type 0 where
   pub small : AllByRecursion (λ c. c ≤ MOST_COLOUR) r.closure
 
 -- it fits where the first stage is to come
-pub record FitsStages (n : ℕ) (r : Left) : Type 0 where
+pub record FitsStages (v n : ℕ) (r : Left) : Type 0 where
   pub numbers : r.numbers ≡ []
   pub steps : r.steps ≡ []
   pub has_stage : 1 ≤ length r.chain
-  pub rest : FitsChain n r
+  pub rest : FitsChain v n r
 
--- it fits the place
+-- it fits the place, which is not that of the first line
 abbrev pub Fits : Place → Left → Type 0
-Fits at_head r = FitsStages r.size r
-Fits at_points r = FitsStages r.size r
-Fits (at_stage n) r = (r.size ≡ 0) × FitsStages n r
-Fits (at_row n more) r = FitsRows n (suc more) r
-Fits (at_body n) r = FitsRows n 0 r
+Fits at_head r = ⊥
+Fits (at_points v) r = FitsStages v r.size r
+Fits (at_stage v n) r = (r.size ≡ 0) × FitsStages v n r
+Fits (at_row v n more) r = FitsRows v n (suc more) r
+Fits (at_body v n) r = FitsRows v n 0 r
 Fits (at_closure_row n more) r = FitsClosure n (suc more) r
 Fits at_end r = r ≡ nothing
 Fits at_extra r = r ≡ nothing
@@ -158,17 +158,17 @@ pub same_left : (a b : Left) → a.size ≡ b.size → a.numbers ≡ b.numbers �
 same_left a b p q r s t = λ i. record { size = p i; numbers = q i; steps = r i; chain = s i; closure = t i }
 
 -- after the last row
-pub next_row-shown : (n k : ℕ) (r : Left) → shown (next_row n k) r ≡ rows_of n k r.numbers ++ body_shown n r
-next_row-shown n zero r = refl
-next_row-shown n (suc k) r = refl
+pub next_row-shown : (v n k : ℕ) (r : Left) → shown (next_row v n k) r ≡ rows_of n k r.numbers ++ body_shown n r
+next_row-shown v n zero r = refl
+next_row-shown v n (suc k) r = refl
 
-pub next_row-fits : (n k : ℕ) (r : Left) → FitsRows n k r → Fits (next_row n k) r
-next_row-fits n zero r f = f
-next_row-fits n (suc k) r f = f
+pub next_row-fits : (v n k : ℕ) (r : Left) → FitsRows v n k r → Fits (next_row v n k) r
+next_row-fits v n zero r f = f
+next_row-fits v n (suc k) r f = f
 
-pub next_row-rows : (n k : ℕ) (r : Left) → Fits (next_row n k) r → FitsRows n k r
-next_row-rows n zero r f = f
-next_row-rows n (suc k) r f = f
+pub next_row-rows : (v n k : ℕ) (r : Left) → Fits (next_row v n k) r → FitsRows v n k r
+next_row-rows v n zero r f = f
+next_row-rows v n (suc k) r f = f
 
 pub next_closure_row-shown : (n k : ℕ) (r : Left) → shown (next_closure_row n k) r ≡ rows_of n k r.closure ++ (codes "end" ∷ [])
 next_closure_row-shown n zero r = refl
@@ -231,19 +231,19 @@ cut_row n k numbers e a =
       rest = Each-drop (λ c. c ≤ MOST_COLOUR) n numbers a;
     }
 
-forward_row : (n k : ℕ) (r : Left) → FitsRows n (suc k) r → Forward (at_row n k) r
-forward_row n k r f =
+forward_row : (v n k : ℕ) (r : Left) → FitsRows v n (suc k) r → Forward (at_row v n k) r
+forward_row v n k r f =
     let cut = cut_row n k r.numbers f.has f.each in
     let good = row_good n (take n r.numbers) f.rest.some cut.count cut.small in
     let after : Left = record { size = r.size; numbers = drop n r.numbers; steps = r.steps; chain = r.chain; closure = r.closure } in
     record {
       line = spaced (take n r.numbers);
-      next = next_row n k;
+      next = next_row v n k;
       after = after;
-      shows = ap (λ l. spaced (take n r.numbers) ∷ l) (sym (next_row-shown n k after));
-      goes = ap (λ b. cond b (Some (next_row n k)) None) good.0;
+      shows = ap (λ l. spaced (take n r.numbers) ∷ l) (sym (next_row-shown v n k after));
+      goes = ap (λ b. cond b (Some (next_row v n k)) None) good.0;
       gives = same_left (with_numbers (numbers_in (spaced (take n r.numbers))) after) r refl (ap (λ l. l ++ drop n r.numbers) good.1 ∙ take-append-drop n r.numbers) refl refl refl;
-      fits = next_row-fits n k after (record { size = f.size; has = cut.others; each = cut.rest; steps = f.steps; rest = record { some = f.rest.some; few = f.rest.few; stages = f.rest.stages; count = f.rest.count; small = f.rest.small } });
+      fits = next_row-fits v n k after (record { size = f.size; has = cut.others; each = cut.rest; steps = f.steps; rest = record { some = f.rest.some; few = f.rest.few; stages = f.rest.stages; count = f.rest.count; small = f.rest.small } });
     }
 
 forward_closure_row : (n k : ℕ) (r : Left) → FitsClosure n (suc k) r → Forward (at_closure_row n k) r
@@ -262,15 +262,15 @@ forward_closure_row n k r f =
     }
 
 -- a stage in front of what follows it
-pub stage_shows : (n : ℕ) (r : Left) → shown (at_stage n) (with_stage n r) ≡ codes "stage" ∷ shown (next_row n n) r
-stage_shows n r =
+pub stage_shows : (v n : ℕ) (r : Left) → shown (at_stage v n) (with_stage n r) ≡ codes "stage" ∷ shown (next_row v n n) r
+stage_shows v n r =
     let rows = rows_of n n r.numbers in
     let steps = map step_line r.steps in
     let rest = flat_map stage_shown r.chain in
-    ap (λ l. codes "stage" ∷ l) (append_assoc (rows ++ steps) rest (closure_shown n r.closure) ∙ append_assoc rows steps (rest ++ closure_shown n r.closure) ∙ sym (next_row-shown n n r))
+    ap (λ l. codes "stage" ∷ l) (append_assoc (rows ++ steps) rest (closure_shown n r.closure) ∙ append_assoc rows steps (rest ++ closure_shown n r.closure) ∙ sym (next_row-shown v n n r))
 
-pub stage_fits : (n : ℕ) (r : Left) → FitsRows n n r → FitsStages n (with_stage n r)
-stage_fits n r f = record {
+pub stage_fits : (v n : ℕ) (r : Left) → FitsRows v n n r → FitsStages v n (with_stage n r)
+stage_fits v n r f = record {
   numbers = refl;
   steps = refl;
   has_stage = omega arith;
@@ -291,14 +291,14 @@ stage_fits n r f = record {
 }
 
 -- the first of the stages is in front of what follows it
-pub record FirstStage (n : ℕ) (r : Left) : Type 0 where
+pub record FirstStage (v n : ℕ) (r : Left) : Type 0 where
   pub after : Left
   pub is : with_stage n after ≡ r
-  pub fits : FitsRows n n after
+  pub fits : FitsRows v n n after
 
-first_stage : (n : ℕ) (s : Stage) (chain : List Stage) (closure : List ℕ) → FitsChain n (record { size = 0; numbers = []; steps = []; chain = s ∷ chain; closure = closure })
-    → FirstStage n (record { size = 0; numbers = []; steps = []; chain = s ∷ chain; closure = closure })
-first_stage n s chain closure f =
+first_stage : (v n : ℕ) (s : Stage) (chain : List Stage) (closure : List ℕ) → FitsChain v n (record { size = 0; numbers = []; steps = []; chain = s ∷ chain; closure = closure })
+    → FirstStage v n (record { size = 0; numbers = []; steps = []; chain = s ∷ chain; closure = closure })
+first_stage v n s chain closure f =
     let m = f.stages.0 in
     record {
       after = record { size = 0; numbers = s.colours.colours; steps = s.steps; chain = chain; closure = closure };
@@ -319,34 +319,34 @@ body_left steps chain closure = record { size = 0; numbers = []; steps = steps; 
 body_choice : {X : Type 0} (a b : Bool) (x y z : X) → a ≡ false → b ≡ false → cond a x (cond b y z) ≡ z
 body_choice a b x y z p q = ap (λ t. cond t x (cond b y z)) p ∙ ap (λ t. cond t y z) q
 
-forward_body : (n : ℕ) (steps : List Step) (chain : List Stage) (closure : List ℕ) → FitsRows n 0 (body_left steps chain closure) → Forward (at_body n) (body_left steps chain closure)
-forward_body n (s ∷ steps) chain closure f =
-    let good = step_good s f.steps.0 in
+forward_body : (v n : ℕ) (steps : List Step) (chain : List Stage) (closure : List ℕ) → FitsRows v n 0 (body_left steps chain closure) → Forward (at_body v n) (body_left steps chain closure)
+forward_body v n (s ∷ steps) chain closure f =
+    let good = step_good v s f.steps.0 in
     let other = step_other s in
     let after = body_left steps chain closure in
     record {
       line = step_line s;
-      next = at_body n;
+      next = at_body v n;
       after = after;
       shows = refl;
-      goes = body_choice (bytes_eq (step_line s) (codes "stage")) (bytes_eq (step_line s) (codes "closure")) (Some (next_row n n)) (Some (next_closure_row n n)) (cond (is_step_line (step_line s)) (Some (at_body n)) None) other.0 other.1
-          ∙ ap (λ t. cond t (Some (at_body n)) None) good.0;
+      goes = body_choice (bytes_eq (step_line s) (codes "stage")) (bytes_eq (step_line s) (codes "closure")) (Some (next_row v n n)) (Some (next_closure_row n n)) (cond (is_step_line v (step_line s)) (Some (at_body v n)) None) other.0 other.1
+          ∙ ap (λ t. cond t (Some (at_body v n)) None) good.0;
       gives = body_choice (bytes_eq (step_line s) (codes "stage")) (bytes_eq (step_line s) (codes "closure")) (with_stage n after) after (with_step (step_in (step_line s)) after) other.0 other.1
           ∙ ap (λ t. with_step t after) good.1;
       fits = record { size = refl; has = f.has; each = tt; steps = f.steps.1; rest = record { some = f.rest.some; few = f.rest.few; stages = f.rest.stages; count = f.rest.count; small = f.rest.small } };
     }
-forward_body n [] (s ∷ chain) closure f =
-    let first = first_stage n s chain closure f.rest in
+forward_body v n [] (s ∷ chain) closure f =
+    let first = first_stage v n s chain closure f.rest in
     record {
       line = codes "stage";
-      next = next_row n n;
+      next = next_row v n n;
       after = first.after;
-      shows = ap (shown (at_stage n)) (sym first.is) ∙ stage_shows n first.after;
+      shows = ap (shown (at_stage v n)) (sym first.is) ∙ stage_shows v n first.after;
       goes = refl;
       gives = first.is;
-      fits = next_row-fits n n first.after first.fits;
+      fits = next_row-fits v n n first.after first.fits;
     }
-forward_body n [] [] closure f =
+forward_body v n [] [] closure f =
     let after = body_left [] [] closure in
     record {
       line = codes "closure";
@@ -358,42 +358,42 @@ forward_body n [] [] closure f =
       fits = next_closure_row-fits n n after (record { some = f.rest.some; size = refl; numbers = refl; steps = refl; chain = refl; count = f.rest.count; small = f.rest.small });
     }
 
-forward_stage : (n : ℕ) (chain : List Stage) (closure : List ℕ) → FitsStages n (body_left [] chain closure) → Forward (at_stage n) (body_left [] chain closure)
-forward_stage n [] closure f = absurd (omega (arith, f.has_stage))
-forward_stage n (s ∷ chain) closure f =
-    let first = first_stage n s chain closure f.rest in
+forward_stage : (v n : ℕ) (chain : List Stage) (closure : List ℕ) → FitsStages v n (body_left [] chain closure) → Forward (at_stage v n) (body_left [] chain closure)
+forward_stage v n [] closure f = absurd (omega (arith, f.has_stage))
+forward_stage v n (s ∷ chain) closure f =
+    let first = first_stage v n s chain closure f.rest in
     record {
       line = codes "stage";
-      next = next_row n n;
+      next = next_row v n n;
       after = first.after;
-      shows = ap (shown (at_stage n)) (sym first.is) ∙ stage_shows n first.after;
+      shows = ap (shown (at_stage v n)) (sym first.is) ∙ stage_shows v n first.after;
       goes = refl;
       gives = first.is;
-      fits = next_row-fits n n first.after first.fits;
+      fits = next_row-fits v n n first.after first.fits;
     }
 
-forward_points : (r : Left) → FitsStages r.size r → Forward at_points r
-forward_points r f = record {
+forward_points : (v : ℕ) (r : Left) → FitsStages v r.size r → Forward (at_points v) r
+forward_points v r f = record {
   line = codes "points " ++ decimal r.size;
-  next = at_stage r.size;
+  next = at_stage v r.size;
   after = with_size 0 r;
   shows = refl;
-  goes = ap sized (points_good r.size f.rest.some f.rest.few);
+  goes = ap (sized v) (points_good r.size f.rest.some f.rest.few);
   gives = same_left (with_size (value (decimal r.size)) (with_size 0 r)) r (value-decimal r.size (omega (arith, f.rest.few))) refl refl refl refl;
   fits = (refl, record { numbers = f.numbers; steps = f.steps; has_stage = f.has_stage; rest = record { some = f.rest.some; few = f.rest.few; stages = f.rest.stages; count = f.rest.count; small = f.rest.small } });
 }
 
 -- the end of the lines, or one line forward
 pub forward : (place : Place) (r : Left) → Fits place r → ((place ≡ at_extra) × (r ≡ nothing)) ⊎ Forward place r
-forward at_head r f = inr (record { line = codes "trace 1"; next = at_points; after = r; shows = refl; goes = refl; gives = refl; fits = f })
-forward at_points r f = inr (forward_points r f)
-forward (at_stage n) r f =
+forward at_head r f = absurd f
+forward (at_points v) r f = inr (forward_points v r f)
+forward (at_stage v n) r f =
     let is : body_left [] r.chain r.closure ≡ r = same_left (body_left [] r.chain r.closure) r (sym f.0) (sym f.1.numbers) (sym f.1.steps) refl refl in
-    inr (subst (Forward (at_stage n)) is (forward_stage n r.chain r.closure (subst (FitsStages n) (sym is) f.1)))
-forward (at_row n more) r f = inr (forward_row n more r f)
-forward (at_body n) r f =
+    inr (subst (Forward (at_stage v n)) is (forward_stage v n r.chain r.closure (subst (FitsStages v n) (sym is) f.1)))
+forward (at_row v n more) r f = inr (forward_row v n more r f)
+forward (at_body v n) r f =
     let is : body_left r.steps r.chain r.closure ≡ r = same_left (body_left r.steps r.chain r.closure) r (sym f.size) (sym (nil_from_length r.numbers (omega (arith, f.has)))) refl refl refl in
-    inr (subst (Forward (at_body n)) is (forward_body n r.steps r.chain r.closure (subst (FitsRows n 0) (sym is) f)))
+    inr (subst (Forward (at_body v n)) is (forward_body v n r.steps r.chain r.closure (subst (FitsRows v n 0) (sym is) f)))
 forward (at_closure_row n more) r f = inr (forward_closure_row n more r f)
 forward at_end r f = inr (record { line = codes "end"; next = at_extra; after = nothing; shows = refl; goes = refl; gives = sym f; fits = refl })
 forward at_extra r f = inl (refl, f)

@@ -1,5 +1,6 @@
 -- Every partition reaches a coherent one by splits.
 use Rattle.std.proofs.Common.{◌≡◌, ◌==◌, ◌&&◌, ℕ, suc, zero, ◌+◌, ◌*◌, ◌<◌, ◌≤◌, Bool, true, false, List, [], ◌∷◌, All, ◌⊎◌, inl, inr, ⊎_elim, refl, sym, ap, subst, ◌∙◌, arith, if◌then◌else◌}
+use Rattle.std.specs.List.{AllByRecursion}
 use Rattle.std.proofs.lemmas.Bool.{cases_eq, cases_Bool, eqb-true, eqb-false, eq-eqb, and_cases, false≢true}
 use Rattle.std.proofs.lemmas.List.Elements.{All-nil, All-cons}
 use Rattle.pair_colours.specs.Colouring.{PairColouring, colour_at, triangles}
@@ -16,13 +17,14 @@ use Rattle.trace_text.specs.declared.step_list.Step.{Step}
 use Rattle.trace_text.specs.declared.step_list.Step.TheVariants.{Diag, Flip, Tri}
 use Rattle.trace_text.specs.Partition.{IsPartition}
 use Rattle.trace_text.specs.Split.{key_in_class, key_of, split_of, numbers_of, IsAllowed, Lead}
+use Rattle.trace_text.specs.Versions.{HasStep}
 use Rattle.trace_text.proofs.Partitions.{rank_of-named_of}
 use Rattle.trace_text.proofs.Parting.{two_keys}
 use Rattle.trace_text.proofs.Splits.{coherent_below_split, IsPartition-split_of, rank_grows, split_of-refines}
 
--- a step that may be made
+-- a step on one class that may be made
 abbrev Found : PairColouring → Type 0
-Found P = (s : Step) × IsAllowed P s
+Found P = (s : Step) × IsAllowed P s × HasStep 1 s
 
 -- the key of a test
 abbrev zero_where : Bool → ℕ
@@ -47,11 +49,11 @@ over_fails P x y u v (suc m) l h =
 step_from : (P : PairColouring) → IsPartition P → (x y u v : ℕ) → x < P.size → y < P.size → u < P.size → v < P.size
     → colour_at P x y ≡ colour_at P u v → alike P x y u v ≡ false → Found P
 step_from P h x y u v hx hy hu hv e differ = ⊎_elim
-    (λ d. found (Diag k) (All-cons Low k [] low (All-nil Low)) (λ q. eqb-false _ _ d (ap unit_of (same_bool (x == y) (u == v) (sym (at_x (λ a b. if a == b then 0 else 1)) ∙ q ∙ at_u (λ a b. if a == b then 0 else 1))))))
+    (λ d. found (Diag k) tt (All-cons Low k [] low (All-nil Low)) (λ q. eqb-false _ _ d (ap unit_of (same_bool (x == y) (u == v) (sym (at_x (λ a b. if a == b then 0 else 1)) ∙ q ∙ at_u (λ a b. if a == b then 0 else 1))))))
     (λ r. ⊎_elim
     (λ r1. ⊎_elim
     (λ o. absurd (eqb-false _ _ o e))
-    (λ t. found (Flip k (colour_at P y x)) (All-cons Low k (colour_at P y x ∷ []) low (All-cons Low (colour_at P y x) [] (h.below y x hy hx) (All-nil Low)))
+    (λ t. found (Flip k (colour_at P y x)) tt (All-cons Low k (colour_at P y x ∷ []) low (All-cons Low (colour_at P y x) [] (h.below y x hy hx) (All-nil Low)))
     (λ q. eqb-false _ _ t (sym (eqb-true _ _ (sym (same_bool (colour_at P y x == colour_at P y x) (colour_at P v u == colour_at P y x) (sym (at_x (λ a b. if colour_at P b a == colour_at P y x then 0 else 1)) ∙ q ∙ at_u (λ a b. if colour_at P b a == colour_at P y x then 0 else 1))) ∙ eq-eqb _ _ refl)))))
     (and_cases (colour_at P x y == colour_at P u v) (colour_at P y x == colour_at P v u) r1))
     (λ r2. ⊎_elim
@@ -72,8 +74,8 @@ step_from P h x y u v hx hy hu hv e differ = ⊎_elim
     low : colour_at P x y < rank_of P
     low = h.below x y hx hy
 
-    found : (s : Step) → All (λ number. number < rank_of P) (numbers_of s) → (key_of P s x y ≡ key_of P s u v → ⊥) → Found P
-    found s names ne = (s, record { names = names; parts = two_keys P (key_of P s) x y u v hx hy hu hv e ne })
+    found : (s : Step) → HasStep 1 s → All (λ number. number < rank_of P) (numbers_of s) → (key_of P s x y ≡ key_of P s u v → ⊥) → Found P
+    found s one_class names ne = (s, record { names = names; parts = two_keys P (key_of P s) x y u v hx hy hu hv e ne }, one_class)
 
     at_x : (key : ℕ → ℕ → ℕ) → key_in_class P (colour_at P x y) key x y ≡ key x y
     at_x key = ap (λ b. if b then key x y else 0) (eq-eqb (colour_at P x y) (colour_at P x y) refl)
@@ -82,7 +84,7 @@ step_from P h x y u v hx hy hu hv e differ = ⊎_elim
     at_u key = ap (λ b. if b then key u v else 0) (eq-eqb (colour_at P u v) (colour_at P x y) (sym e))
 
     over : (i j : ℕ) → i < rank_of P → j < rank_of P → (triangles P x y i j ≡ triangles P u v i j → ⊥) → Found P
-    over i j li lj ne = found (Tri (colour_at P x y) i j)
+    over i j li lj ne = found (Tri (colour_at P x y) i j) tt
         (All-cons Low (colour_at P x y) (i ∷ j ∷ []) low (All-cons Low i (j ∷ []) li (All-cons Low j [] lj (All-nil Low))))
         (λ q. ne (sym (at_x (λ a b. triangles P a b i j)) ∙ q ∙ at_u (λ a b. triangles P a b i j)))
 
@@ -128,16 +130,16 @@ coherent_no_step P h c s a =
     sym (rank_of-named_of P h.colouring) ∙ ap rank_of (named_of-same P (split_of P s) h.colouring d.colouring r (split_of-refines P s h)) ∙ rank_of-named_of (split_of P s) d.colouring in
     omega (arith, e, rank_grows P s h a)
 
--- steps to a coherent partition
+-- steps on one class each to a coherent partition
 abbrev pub Led : PairColouring → Type 0
-Led P = (steps : List Step) × (P2 : PairColouring) × IsPartition P2 × Coherent P2 × Lead steps P P2
+Led P = (steps : List Step) × (P2 : PairColouring) × IsPartition P2 × Coherent P2 × Lead steps P P2 × AllByRecursion (HasStep 1) steps
 
 go_on : (P : PairColouring) → IsPartition P → ((P1 : PairColouring) → IsPartition P1 → P1.size ≡ P.size → rank_of P < rank_of P1 → Led P1) → Led P
 go_on P h again = ⊎_elim
-    (λ c. ([], P, h, c, refl))
+    (λ c. ([], P, h, c, refl, tt))
     (λ f.
     let rest = again (split_of P f.0) (IsPartition-split_of P f.0 h) refl (rank_grows P f.0 h f.1) in
-    (f.0 ∷ rest.0, rest.1, rest.2, rest.3, (f.1, rest.4)))
+    (f.0 ∷ rest.0, rest.1, rest.2, rest.3, (f.1, rest.4), (f.2, rest.5)))
     (coherent_or_step P h)
 
 steps_from : (n fuel : ℕ) (P : PairColouring) → IsPartition P → P.size ≡ n → n + n * n ≤ rank_of P + fuel → Led P

@@ -22,11 +22,11 @@ pub record AreRowPlaces (n : ℕ) (place : ℕ → Place) : Type 0 where
   pub other : (k line : ℕ) (bytes : List ℕ) (rest : List (List ℕ)) → is_row_line n bytes ≡ false
       → fault_from line (place (suc k)) (bytes ∷ rest) ≡ Some (line, Row)
 
-pub stage_rows : (n : ℕ) → AreRowPlaces n (next_row n)
-stage_rows n = record {
+pub stage_rows : (v n : ℕ) → AreRowPlaces n (next_row v n)
+stage_rows v n = record {
   early = λ k line. refl;
-  row = λ k line bytes rest t. ap (λ b. fault_on line (at_row n k) (cond b (Some (next_row n k)) None) (λ next. fault_from (line + 1) next rest)) t;
-  other = λ k line bytes rest f. ap (λ b. fault_on line (at_row n k) (cond b (Some (next_row n k)) None) (λ next. fault_from (line + 1) next rest)) f;
+  row = λ k line bytes rest t. ap (λ b. fault_on line (at_row v n k) (cond b (Some (next_row v n k)) None) (λ next. fault_from (line + 1) next rest)) t;
+  other = λ k line bytes rest f. ap (λ b. fault_on line (at_row v n k) (cond b (Some (next_row v n k)) None) (λ next. fault_from (line + 1) next rest)) f;
 }
 
 pub closure_rows : (n : ℕ) → AreRowPlaces n (next_closure_row n)

@@ -6,9 +6,10 @@ use Rattle.pair_colours.specs.Colouring.{PairColouring, IsColouring, Refines, co
 use Rattle.pair_colours.specs.Closure.{Coherent}
 use Rattle.pair_colours.specs.Naming.{rank_of}
 use Rattle.pair_colours.specs.Rounds.{Alike}
+use Rattle.pair_colours.proofs.Exists.{first_alike-same, first_alike-alike}
 use Rattle.pair_colours.proofs.Rounds.{alike_in}
 use Rattle.trace_text.specs.declared.step_list.Step.{Step}
-use Rattle.trace_text.specs.declared.step_list.Step.TheVariants.{Diag, Flip, Tri}
+use Rattle.trace_text.specs.declared.step_list.Step.TheVariants.{Diag, Flip, Tri, Round}
 use Rattle.trace_text.specs.Partition.{IsPartition}
 use Rattle.trace_text.specs.Split.{later_keys, key_in_class, key_of, split_of, IsAllowed, IsSplit}
 use Rattle.trace_text.proofs.Parting.{IsApart, smaller_found, parted_together, rank_of-parted_by, IsPartition-parted_by, parted_by-refines}
@@ -23,6 +24,7 @@ key_of-alike P (Diag k) x y u v a =
     (ap (λ b. if b then 0 else 1) (same_from_decides _ _ (Decides-eqb x y) (Decides-like _ a.diagonal.1 a.diagonal.0 (Decides-eqb u v))))
 key_of-alike P (Flip k other) x y u v a = key_in_class-same P k (λ x y. if colour_at P y x == other then 0 else 1) x y u v a.own (ap (λ c. if c == other then 0 else 1) a.turned)
 key_of-alike P (Tri k left right) x y u v a = key_in_class-same P k (λ x y. triangles P x y left right) x y u v a.own (a.counts left right)
+key_of-alike P Round x y u v a = first_alike-same P x y u v a
 
 -- a key on one class is there alone
 key_in_class-apart : (P : PairColouring) (k : ℕ) (key : ℕ → ℕ → ℕ) → IsApart P (key_in_class P k key)
@@ -42,6 +44,7 @@ pub key_of-apart : (P : PairColouring) (s : Step) → IsApart P (key_of P s)
 key_of-apart P (Diag k) = key_in_class-apart P k (λ x y. if x == y then 0 else 1)
 key_of-apart P (Flip k other) = key_in_class-apart P k (λ x y. if colour_at P y x == other then 0 else 1)
 key_of-apart P (Tri k left right) = key_in_class-apart P k (λ x y. triangles P x y left right)
+key_of-apart P Round = record { one = λ x y u v hx hy hu hv h e. (first_alike-alike P x y u v hx hy hu hv e).own }
 
 -- so they stay together
 pub split_of-alike : (P : PairColouring) (s : Step) (x y u v : ℕ) → x < P.size → y < P.size → u < P.size → v < P.size

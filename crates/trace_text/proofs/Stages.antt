@@ -112,9 +112,9 @@ pub accepted_is_closure : (claim : Claim) (front : List Stage) (last : Stage) �
 accepted_is_closure claim front last c e a = closure_at_end last.colours a.last.partition claim.closure (last_between claim front last c e a) a.coherent a.named
 
 -- with steps to a coherent partition, and its naming, a chain of one stage more makes an accepted claim
-pub accepts_more : (front : List Stage) (last : Stage) (P K : PairColouring) → AreStages None front → IsStageOf (chain_end front) last P
-    → Coherent P → K ≡ named_of P → Accepts (record { chain = front ++ last ∷ []; closure = K })
-accepts_more front last P K s d h k =
+pub accepts_more : (version : ℕ) (front : List Stage) (last : Stage) (P K : PairColouring) → AreStages None front → IsStageOf (chain_end front) last P
+    → Coherent P → K ≡ named_of P → Accepts (record { version = version; chain = front ++ last ∷ []; closure = K })
+accepts_more version front last P K s d h k =
     let e = stage_end-is (chain_end front) last P d in
     record {
       last = stage_end (chain_end front) last;
@@ -125,9 +125,9 @@ accepts_more front last P K s d h k =
     }
 
 -- and so does one stage alone
-pub accepts_one : (C P K : PairColouring) (steps : List Step) → Lead steps (named_of C) P → Coherent P → K ≡ named_of P
-    → Accepts (record { chain = record { colours = C; steps = steps } ∷ []; closure = K })
-accepts_one C P K steps l h k = accepts_more [] (record { colours = C; steps = steps }) P K tt (record { follows = tt; leads = l }) h k
+pub accepts_one : (version : ℕ) (C P K : PairColouring) (steps : List Step) → Lead steps (named_of C) P → Coherent P → K ≡ named_of P
+    → Accepts (record { version = version; chain = record { colours = C; steps = steps } ∷ []; closure = K })
+accepts_one version C P K steps l h k = accepts_more version [] (record { colours = C; steps = steps }) P K tt (record { follows = tt; leads = l }) h k
 
 -- it has no more steps than the ranks differ by
 pub few_steps : (C P : PairColouring) (steps : List Step) → IsColouring C → Lead steps (named_of C) P → rank_of C + length steps ≤ rank_of (named_of P)

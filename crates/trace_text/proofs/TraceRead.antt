@@ -1,35 +1,52 @@
 -- A whole trace that is read part by part: where its fault is, if it has one.
-use Rattle.std.proofs.Common.{◌≡◌, ℕ, ◌+◌, ◌<◌, ◌≤◌, false, cond, List, [], ◌∷◌, ◌++◌, length, Some, None, Result, Ok, Err, refl, sym, ap, subst, ◌∙◌, arith}
-use Rattle.std.specs.Prelude.{codes, decimal, bytes_eq, IfErr}
+use Rattle.std.proofs.Common.{◌≡◌, ℕ, ◌+◌, ◌<◌, ◌≤◌, false, cond, List, [], ◌∷◌, ◌++◌, length, Option, Some, None, Result, Ok, Err, refl, sym, ap, subst, ◌∙◌, arith}
+use Rattle.std.specs.Prelude.{codes, decimal, bytes_eq, is_some, IfErr}
 use Rattle.pair_colours.specs.Colouring.{PairColouring}
 use Rattle.pair_colours.specs.declared.coloured_pairs.TheConstants.{MOST_POINTS}
 use Rattle.trace_text.specs.declared.trace_faults.TraceFault.{TraceFault}
 use Rattle.trace_text.specs.declared.trace_faults.TraceFault.TheVariants.{Text}
-use Rattle.trace_text.specs.declared.trace_faults.TraceWord.TheVariants.{Stage, End, Extra}
-use Rattle.trace_text.specs.TraceFault.{at_head, at_points, at_stage, at_end, at_extra, next_row, next_closure_row, sized, fault_from, fault_on}
+use Rattle.trace_text.specs.declared.trace_faults.TraceWord.TheVariants.{Points, Stage, End, Extra}
+use Rattle.trace_text.specs.TraceFault.{at_head, at_points, at_stage, at_end, at_extra, next_row, next_closure_row, versioned, sized, points_on, fault_from, fault_on}
 use Rattle.trace_text.specs.TraceText.{matrix_lines}
+use Rattle.trace_text.specs.Versions.{IsVersion}
 use Rattle.trace_text.specs.Reading.{Cursor, IsFaultOf, first_passes, rows_fault}
-use Rattle.trace_text.proofs.LineReadings.{points_good}
+use Rattle.trace_text.proofs.LineReadings.{version_good, points_good}
 use Rattle.trace_text.proofs.RowPlaces.{closure_rows, matrix_clean}
 
--- the first two lines were read, and n is the number of points
-pub head_read : (n : ℕ) (start first now : Cursor) → start.lines ≡ codes "trace 1" ∷ first.lines → first.line ≡ start.line + 1
-    → first.lines ≡ (codes "points " ++ decimal n) ∷ now.lines → now.line ≡ first.line + 1 → 1 ≤ n → n ≤ MOST_POINTS
-    → fault_from start.line at_head start.lines ≡ fault_from now.line (at_stage n) now.lines
-head_read n start first now head one points two some few =
-    ap (fault_from start.line at_head) (head ∙ ap (λ l. codes "trace 1" ∷ l) points)
-    ∙ ap (λ o. fault_on (start.line + 1) at_points (sized o) (λ next. fault_from (start.line + 1 + 1) next now.lines)) (points_good n some few)
-    ∙ ap (λ l. fault_from l (at_stage n) now.lines) (omega (arith, one, two))
+none_from : {X : Type 0} (o : Option X) → is_some o ≡ false → o ≡ None
+none_from None e = refl
+none_from (Some x) e = absurd cc
+
+-- the first line was read, and v is the version
+pub version_read : (v : ℕ) (start first : Cursor) → start.lines ≡ (codes "trace " ++ decimal v) ∷ first.lines → first.line ≡ start.line + 1 → IsVersion v
+    → fault_from start.line at_head start.lines ≡ fault_from first.line (at_points v) first.lines
+version_read v start first head line known =
+    ap (fault_from start.line at_head) head
+    ∙ ap (λ o. fault_on start.line at_head (versioned o) (λ next. fault_from (start.line + 1) next first.lines)) (version_good v known)
+    ∙ ap (λ l. fault_from l (at_points v) first.lines) (sym line)
+
+-- the second line was read, and n is the number of points
+pub points_read : (v n : ℕ) (first now : Cursor) → first.lines ≡ (codes "points " ++ decimal n) ∷ now.lines → now.line ≡ first.line + 1 → 1 ≤ n → n ≤ MOST_POINTS
+    → fault_from first.line (at_points v) first.lines ≡ fault_from now.line (at_stage v n) now.lines
+points_read v n first now points line some few =
+    ap (fault_from first.line (at_points v)) points
+    ∙ ap (λ o. fault_on first.line (at_points v) (sized v o) (λ next. fault_from (first.line + 1) next now.lines)) (points_good n some few)
+    ∙ ap (λ l. fault_from l (at_stage v n) now.lines) (sym line)
+
+-- no second line
+pub no_points : (v line : ℕ) (lines : List (List ℕ)) → first_passes (λ bytes. is_some (points_on bytes)) lines ≡ false → fault_from line (at_points v) lines ≡ Some (line, Points)
+no_points v line [] e = refl
+no_points v line (bytes ∷ rest) e = ap (λ o. fault_on line (at_points v) (sized v o) (λ next. fault_from (line + 1) next rest)) (none_from (points_on bytes) e)
 
 -- no first stage
-pub no_stage : (line n : ℕ) (lines : List (List ℕ)) → first_passes (λ bytes. bytes_eq bytes (codes "stage")) lines ≡ false → fault_from line (at_stage n) lines ≡ Some (line, Stage)
-no_stage line n [] e = refl
-no_stage line n (bytes ∷ rest) e = ap (λ b. fault_on line (at_stage n) (cond b (Some (next_row n n)) None) (λ next. fault_from (line + 1) next rest)) e
+pub no_stage : (v line n : ℕ) (lines : List (List ℕ)) → first_passes (λ bytes. bytes_eq bytes (codes "stage")) lines ≡ false → fault_from line (at_stage v n) lines ≡ Some (line, Stage)
+no_stage v line n [] e = refl
+no_stage v line n (bytes ∷ rest) e = ap (λ b. fault_on line (at_stage v n) (cond b (Some (next_row v n n)) None) (λ next. fault_from (line + 1) next rest)) e
 
 -- the first stage begins
-pub stage_read : (n : ℕ) (before now : Cursor) → before.lines ≡ codes "stage" ∷ now.lines → now.line ≡ before.line + 1
-    → fault_from before.line (at_stage n) before.lines ≡ fault_from now.line (next_row n n) now.lines
-stage_read n before now lines line = ap (fault_from before.line (at_stage n)) lines ∙ ap (λ l. fault_from l (next_row n n) now.lines) (sym line)
+pub stage_read : (v n : ℕ) (before now : Cursor) → before.lines ≡ codes "stage" ∷ now.lines → now.line ≡ before.line + 1
+    → fault_from before.line (at_stage v n) before.lines ≡ fault_from now.line (next_row v n n) now.lines
+stage_read v n before now lines line = ap (fault_from before.line (at_stage v n)) lines ∙ ap (λ l. fault_from l (next_row v n n) now.lines) (sym line)
 
 -- the rows of the closure were read
 pub closure_read : (n : ℕ) (before now : Cursor) (K : PairColouring) → rows_fault n n before.line before.lines ≡ None → before.lines ≡ matrix_lines K ++ now.lines → K.size ≡ n → now.line ≡ before.line + n

@@ -5,11 +5,12 @@ use Rattle.text_lines.specs.Lines.{lines_of}
 use Rattle.trace_text.specs.declared.stage_list.Claim.{Claim}
 use Rattle.trace_text.specs.declared.trace_faults.TraceWord.{TraceWord}
 use Rattle.trace_text.specs.TraceText.{trace_text}
-use Rattle.trace_text.specs.TraceFault.{Place, at_head, at_points, at_stage, at_row, at_body, at_closure_row, at_end, at_extra, next_place, fault_from, fault_on, word_at, trace_fault}
+use Rattle.trace_text.specs.TraceFault.{Place, at_head, at_points, at_stage, at_row, at_body, at_closure_row, at_end, at_extra, next_place, versioned, version_on, fault_from, fault_on, word_at, trace_fault}
 use Rattle.trace_text.specs.ClaimTexts.{FitsTrace, AreTraceLines, IsTraceText}
-use Rattle.trace_text.proofs.LinesLeft.{Left, decode, decode_on, decode_line, shown, Fits, forward}
+use Rattle.trace_text.proofs.LineReadings.{version_good, version_back}
+use Rattle.trace_text.proofs.LinesLeft.{Left, nothing, decode, decode_on, decode_line, points_shown, shown, Fits, forward}
 use Rattle.trace_text.proofs.LinesBack.{InRange, back, next_in_range}
-use Rattle.trace_text.proofs.ClaimLines.{left_of, claim_of, claim_fits, fits_claim, claim_lines}
+use Rattle.trace_text.proofs.ClaimLines.{left_of, claim_of, version_line, claim_fits, fits_claim, claim_lines}
 use Rattle.trace_text.proofs.LineBytes.{text_lines}
 
 -- the lines say this without a fault
@@ -51,11 +52,11 @@ abbrev some_fault : ℕ × TraceWord → Option (ℕ × TraceWord)
 some_fault f = Some f
 
 pub without_fault : (lines : List (List ℕ)) (place : Place) (k : ℕ) → InRange place → fault_from k place lines ≡ None → Shown place lines (decode place lines)
-without_fault [] at_head k r e = absurd cc
-without_fault [] at_points k r e = absurd cc
-without_fault [] (at_stage n) k r e = absurd cc
-without_fault [] (at_row n more) k r e = absurd cc
-without_fault [] (at_body n) k r e = absurd cc
+without_fault [] at_head k r e = absurd r
+without_fault [] (at_points v) k r e = absurd cc
+without_fault [] (at_stage v n) k r e = absurd cc
+without_fault [] (at_row v n more) k r e = absurd cc
+without_fault [] (at_body v n) k r e = absurd cc
 without_fault [] (at_closure_row n more) k r e = absurd cc
 without_fault [] at_end k r e = absurd cc
 without_fault [] at_extra k r e = record { fits = refl; shows = refl }
@@ -74,28 +75,66 @@ without_fault (line ∷ lines) place k r e = elim (option_cases (next_place plac
       }
 ]
 
--- the lines of a claim say it
-pub claim_said : (lines : List (List ℕ)) (claim : Claim) → AreTraceLines lines claim → Says at_head lines (left_of claim)
-claim_said lines claim a = said lines at_head (left_of claim) (claim_fits claim a.fits) (a.are ∙ claim_lines claim a.fits)
+-- the claim that lines say
+abbrev claim_on : Option ℕ → List (List ℕ) → Claim
+claim_on None rest = claim_of 0 nothing
+claim_on (Some v) rest = claim_of v (decode (at_points v) rest)
 
-pub said_claim : (lines : List (List ℕ)) → fault_from 1 at_head lines ≡ None → AreTraceLines lines (claim_of (decode at_head lines))
-said_claim lines e =
-    let w = without_fault lines at_head 1 tt e in
-    let f = fits_claim (decode at_head lines) w.fits in
-    record { are = sym w.shows ∙ sym (claim_lines (claim_of (decode at_head lines)) f); fits = f }
+abbrev decode_claim : List (List ℕ) → Claim
+decode_claim [] = claim_of 0 nothing
+decode_claim (line ∷ rest) = claim_on (version_on line) rest
+
+-- the lines say this claim without a fault
+pub record SaysClaim (lines : List (List ℕ)) (claim : Claim) : Type 0 where
+  pub clean : fault_from 1 at_head lines ≡ None
+  pub says : decode_claim lines ≡ claim
+
+-- the faults after the first line
+abbrev fault_after : Option ℕ → List (List ℕ) → Option (ℕ × TraceWord)
+fault_after version rest = fault_on 1 at_head (versioned version) (λ next. fault_from 2 next rest)
+
+-- the lines of a claim say it
+pub claim_said : (lines : List (List ℕ)) (claim : Claim) → AreTraceLines lines claim → SaysClaim lines claim
+claim_said lines claim a =
+    let v = claim.version in
+    let rest = points_shown (left_of claim) in
+    let later = said rest (at_points v) (left_of claim) (claim_fits claim a.fits) refl in
+    let told = version_good v a.fits.version in
+    let are : version_line v ∷ rest ≡ lines = sym (a.are ∙ claim_lines claim a.fits) in
+    subst (λ l. SaysClaim l claim) are (record {
+      clean = ap (λ o. fault_after o rest) told ∙ later.clean 2;
+      says = ap (λ o. claim_on o rest) told ∙ ap (claim_of v) later.says;
+    })
+
+pub said_claim : (lines : List (List ℕ)) → fault_from 1 at_head lines ≡ None → AreTraceLines lines (decode_claim lines)
+said_claim [] e = absurd cc
+said_claim (line ∷ rest) e = elim (option_cases (version_on line)) [
+  | inl none ↦
+      let fault : some_fault (1, word_at at_head) ≡ None = sym (ap (λ o. fault_after o rest) none) ∙ e in
+      absurd cc
+  | inr some ↦
+      let v = some.0 in
+      let told : version_on line ≡ Some v = some.1 in
+      let first = version_back line v told in
+      let w = without_fault rest (at_points v) 2 tt (sym (ap (λ o. fault_after o rest) told) ∙ e) in
+      let claim = claim_of v (decode (at_points v) rest) in
+      let f = fits_claim v (decode (at_points v) rest) first.known w.fits in
+      subst (AreTraceLines (line ∷ rest)) (sym (ap (λ o. claim_on o rest) told))
+      (record { are = (λ i. first.spelled i ∷ sym w.shows i) ∙ sym (claim_lines claim f); fits = f })
+]
 
 pub reading_has_no_fault : (text : List ℕ) (claim : Claim) → IsTraceText text claim → trace_fault text ≡ None
-reading_has_no_fault text claim t = (claim_said (map (λ part. part.bytes) (lines_of text)) claim t.lines).clean 1
+reading_has_no_fault text claim t = (claim_said (map (λ part. part.bytes) (lines_of text)) claim t.lines).clean
 
 pub reading_is_unique : (text : List ℕ) (claim other : Claim) → IsTraceText text claim → IsTraceText text other → claim ≡ other
 reading_is_unique text claim other a b =
-    ap claim_of (sym (claim_said (map (λ part. part.bytes) (lines_of text)) claim a.lines).says ∙ (claim_said (map (λ part. part.bytes) (lines_of text)) other b.lines).says)
+    sym (claim_said (map (λ part. part.bytes) (lines_of text)) claim a.lines).says ∙ (claim_said (map (λ part. part.bytes) (lines_of text)) other b.lines).says
 
 pub trace_reads_or_fails : (text : List ℕ) → MatchOption (trace_fault text) ((claim : Claim) × IsTraceText text claim) (λ _. (claim : Claim) → ¬ IsTraceText text claim)
 trace_reads_or_fails text =
     let lines = map (λ part. part.bytes) (lines_of text) in
     elim (trace_fault text) as (λ o. trace_fault text ≡ o → MatchOption o ((claim : Claim) × IsTraceText text claim) (λ _. (claim : Claim) → ¬ IsTraceText text claim)) [
-      | None ↦ λ e. (claim_of (decode at_head lines), record { lines = said_claim lines e })
+      | None ↦ λ e. (decode_claim lines, record { lines = said_claim lines e })
       | Some fault ↦ λ e claim t. let both : None ≡ Some fault = sym (reading_has_no_fault text claim t) ∙ e in absurd cc
     ] refl
 

@@ -41,14 +41,29 @@ stage_text old t1 t2 t3 s a b c =
     text_more old t2 t3 (codes "stage" ∷ matrix_lines s.colours) (map step_line s.steps)
     (text_more old t1 t2 (codes "stage" ∷ []) (matrix_lines s.colours) a (b ∙ ap (λ t. t1 ++ t) (rows_text s.colours))) c
 
+-- the first two lines
+head_text : (t t0 t1 version digits : List ℕ) → t ≡ version → t0 ≡ t ++ codes "\npoints " ++ digits → t1 ≡ t0 ++ codes "\n" → t1 ≡ lines_text (version ∷ (codes "points " ++ digits) ∷ [])
+head_text t t0 t1 version digits v a b =
+    let end = codes "\n" in
+    let points = codes "\npoints " in
+    let second = (codes "points " ++ digits) ++ end in
+    b ∙ ap (λ u. u ++ end) a ∙ ap (λ u. ((u ++ points) ++ digits) ++ end) v
+    ∙ ap (λ u. u ++ end) (append_assoc version points digits)
+    ∙ append_assoc version (points ++ digits) end
+    ∙ sym (append_assoc version end second)
+    ∙ ap (λ u. (version ++ end) ++ u) (sym (append-nil second))
+
 -- a whole trace
-pub whole_text : (t0 t1 t2 t3 t4 t5 : List ℕ) (claim : Claim) → t0 ≡ codes "trace 1\npoints " ++ decimal claim.closure.size → t1 ≡ t0 ++ codes "\n" → t2 ≡ t1 ++ lines_text (flat_map stage_lines claim.chain)
+pub whole_text : (t t0 t1 t2 t3 t4 t5 : List ℕ) (claim : Claim) → t ≡ codes "trace " ++ decimal claim.version → t0 ≡ t ++ codes "\npoints " ++ decimal claim.closure.size → t1 ≡ t0 ++ codes "\n"
+    → t2 ≡ t1 ++ lines_text (flat_map stage_lines claim.chain)
     → t3 ≡ t2 ++ codes "closure\n" → t4 ≡ t3 ++ matrix_rows claim.closure → t5 ≡ t4 ++ codes "end\n" → t5 ≡ trace_text claim
-whole_text t0 t1 t2 t3 t4 t5 claim a b c d e f =
-    let head = codes "trace 1" ∷ (codes "points " ++ decimal claim.closure.size) ∷ [] in
+whole_text t t0 t1 t2 t3 t4 t5 claim v a b c d e f =
+    let version = codes "trace " ++ decimal claim.version in
+    let size = codes "points " ++ decimal claim.closure.size in
+    let head = version ∷ size ∷ [] in
     let chain = flat_map stage_lines claim.chain in
     let rows = matrix_lines claim.closure in
-    let first : t1 ≡ [] ++ lines_text head = b ∙ ap (λ t. t ++ codes "\n") a ∙ sym (ap (λ t. codes "trace 1\npoints " ++ t) (append-nil (decimal claim.closure.size ++ codes "\n"))) in
+    let first : t1 ≡ [] ++ lines_text head = head_text t t0 t1 version (decimal claim.closure.size) v a b in
     let second = text_more [] t1 t2 head chain first c in
     let third = text_more [] t2 t3 (head ++ chain) (codes "closure" ∷ []) second d in
     let fourth = text_more [] t3 t4 ((head ++ chain) ++ codes "closure" ∷ []) rows third (e ∙ ap (λ t. t3 ++ t) (rows_text claim.closure)) in

@@ -8,22 +8,25 @@ use Rattle.trace_text.specs.declared.step_list.Step.{Step}
 use Rattle.trace_text.specs.declared.stage_list.Stage.{Stage}
 use Rattle.trace_text.specs.declared.stage_list.Claim.{Claim}
 use Rattle.trace_text.specs.Split.{numbers_of}
+use Rattle.trace_text.specs.Versions.{IsVersion, HasStep}
 use Rattle.trace_text.specs.TraceText.{trace_lines}
 
--- a step whose numbers are within the limit
-abbrev pub IsTraceStep : Step → Type 0
-IsTraceStep s = AllByRecursion (λ number. number ≤ MOST_STEP_NUMBER) (numbers_of s)
+-- a step of a version whose numbers are within the limit
+pub record IsTraceStep (version : ℕ) (s : Step) : Type 0 where
+  pub known : HasStep version s
+  pub numbers : AllByRecursion (λ number. number ≤ MOST_STEP_NUMBER) (numbers_of s)
 
--- a stage of n points whose numbers are within the limits
-pub record IsTraceStage (n : ℕ) (stage : Stage) : Type 0 where
+-- a stage of n points with steps of a version, whose numbers are within the limits
+pub record IsTraceStage (version n : ℕ) (stage : Stage) : Type 0 where
   pub points : stage.colours.size ≡ n
   pub colours : IsRawColouring stage.colours
-  pub steps : AllByRecursion IsTraceStep stage.steps
+  pub steps : AllByRecursion (IsTraceStep version) stage.steps
 
--- the claim has a stage, one number of points, and numbers within the limits
+-- the claim has a version, a stage, one number of points, and numbers within the limits
 pub record FitsTrace (claim : Claim) : Type 0 where
+  pub version : IsVersion claim.version
   pub has_stage : 1 ≤ length claim.chain
-  pub stages : AllByRecursion (IsTraceStage claim.closure.size) claim.chain
+  pub stages : AllByRecursion (IsTraceStage claim.version claim.closure.size) claim.chain
   pub closure : IsRawColouring claim.closure
 
 -- the lines are those of the claim, which is within the limits

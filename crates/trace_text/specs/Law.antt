@@ -1,16 +1,21 @@
 -- Laws over the definitions alone.
-use Rattle.std.specs.Prelude.{◌≡◌, ◌↔◌, ◌⊎◌, ℕ, ◌+◌, ◌≤◌, List, [], ◌∷◌, ◌++◌, length, All, None, MatchOption}
+use Rattle.std.specs.Prelude.{◌≡◌, ◌↔◌, ◌⊎◌, ℕ, ◌+◌, ◌≤◌, List, [], ◌∷◌, ◌++◌, length, map, All, None, Some, MatchOption}
+use Rattle.std.specs.List.{AllByRecursion}
 use Rattle.pair_colours.specs.Colouring.{PairColouring, IsColouring, IsRawColouring, Refines, IsSamePartition}
 use Rattle.pair_colours.specs.Closure.{Coherent, IsClosureOf}
 use Rattle.pair_colours.specs.Naming.{rank_of, IsNamedMeet}
 use Rattle.trace_text.specs.declared.check_words.CheckWord.{CheckWord}
 use Rattle.trace_text.specs.declared.step_list.Step.{Step}
+use Rattle.trace_text.specs.declared.step_list.Step.TheVariants.{Round}
 use Rattle.trace_text.specs.declared.stage_list.Stage.{Stage}
 use Rattle.trace_text.specs.declared.stage_list.Claim.{Claim}
 use Rattle.trace_text.specs.Partition.{IsPartition, meet_of}
-use Rattle.trace_text.specs.Split.{later_keys, parted_by, key_in_class, key_of, IsSplit, Lead}
+use Rattle.trace_text.specs.Split.{later_keys, parted_by, key_in_class, key_of, HasParts, IsSplit, Lead}
+use Rattle.trace_text.specs.Chains.{StageEnd, chain_end}
 use Rattle.trace_text.specs.Parts.{keys_in, class_parted_by}
 use Rattle.trace_text.specs.Acceptance.{Accepts}
+use Rattle.trace_text.specs.Versions.{HasStep, IsVersioned}
+use Rattle.trace_text.specs.RoundChains.{IsRoundChain, AreFollowing}
 use Rattle.trace_text.specs.BadLines.{IsFirstBadLine}
 use Rattle.trace_text.specs.declared.limits.TheConstants.{MOST_TRACE}
 use Rattle.trace_text.specs.Limits.{most_stages}
@@ -56,9 +61,36 @@ abbrev pub ClosureOfMeet : Type 0
 ClosureOfMeet = (C C2 K E M K2 : PairColouring) → Refines C2 C → IsClosureOf K C → IsSamePartition E K → IsNamedMeet C2 E M
     → (IsClosureOf K2 C2) ↔ (IsClosureOf K2 M)
 
--- from every partition some steps lead by splits to a coherent partition
+-- from every partition some steps on one class each lead by splits to a coherent partition
 abbrev pub StepsExist : Type 0
-StepsExist = (P : PairColouring) → IsPartition P → (steps : List Step) × (P2 : PairColouring) × IsPartition P2 × Coherent P2 × Lead steps P P2
+StepsExist = (P : PairColouring) → IsPartition P → (steps : List Step) × (P2 : PairColouring) × IsPartition P2 × Coherent P2 × Lead steps P P2 × AllByRecursion (HasStep 1) steps
+
+-- a round is idle exactly on a coherent partition
+abbrev pub RoundIsIdleOnCoherent : Type 0
+RoundIsIdleOnCoherent = (P : PairColouring) → IsPartition P → (¬ HasParts P Round) ↔ Coherent P
+
+-- so a chain of rounds ends at a coherent partition
+abbrev pub RoundChainEndsCoherent : Type 0
+RoundChainEndsCoherent = (chain rounds : List Stage) (last : StageEnd) → AreFollowing None chain → All (λ stage. IsColouring stage.colours) chain
+    → IsRoundChain chain rounds → chain_end rounds ≡ Some last → Coherent last.partition
+
+-- a chain whose colours follow one another has a chain of rounds
+abbrev pub RoundChainExists : Type 0
+RoundChainExists = (chain : List Stage) → AreFollowing None chain → All (λ stage. IsColouring stage.colours) chain → (rounds : List Stage) × IsRoundChain chain rounds
+
+-- and one alone
+abbrev pub RoundChainIsUnique : Type 0
+RoundChainIsUnique = (chain rounds other : List Stage) → IsRoundChain chain rounds → IsRoundChain chain other → rounds ≡ other
+
+-- which depends on the colours alone
+abbrev pub RoundChainIsOfColours : Type 0
+RoundChainIsOfColours = (chain other rounds : List Stage) → map (λ stage. stage.colours) chain ≡ map (λ stage. stage.colours) other
+    → IsRoundChain chain rounds → IsRoundChain other rounds
+
+-- the chain of rounds of an accepted claim makes an accepted claim of version 2, with the same closure
+abbrev pub RoundClaimIsAccepted : Type 0
+RoundClaimIsAccepted = (claim : Claim) (rounds : List Stage) → All (λ stage. IsColouring stage.colours) claim.chain → Accepts claim → IsRoundChain claim.chain rounds
+    → Accepts (record { version = 2; chain = rounds; closure = claim.closure }) × IsVersioned (record { version = 2; chain = rounds; closure = claim.closure })
 
 -- a claim with a stage is accepted, or has a first bad line
 abbrev pub VerdictExists : Type 0
@@ -97,9 +129,9 @@ TextIsOfOneClaim = (claim other : Claim) → FitsTrace claim → FitsTrace other
 
 -- an accepted claim of raw colourings is within the limits of a claim that is written
 abbrev pub AcceptedFitsTrace : Type 0
-AcceptedFitsTrace = (claim : Claim) → Accepts claim → All (λ stage. IsRawColouring stage.colours) claim.chain → FitsTrace claim
+AcceptedFitsTrace = (claim : Claim) → IsVersioned claim → Accepts claim → All (λ stage. IsRawColouring stage.colours) claim.chain → FitsTrace claim
 
 -- and its text within that of a trace, where it does not have too many stages
 abbrev pub AcceptedTextFits : Type 0
-AcceptedTextFits = (claim : Claim) → Accepts claim → length claim.chain ≤ most_stages → All (λ stage. IsRawColouring stage.colours) claim.chain
+AcceptedTextFits = (claim : Claim) → IsVersioned claim → Accepts claim → length claim.chain ≤ most_stages → All (λ stage. IsRawColouring stage.colours) claim.chain
     → length (trace_text claim) ≤ MOST_TRACE

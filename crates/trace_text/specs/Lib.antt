@@ -6,6 +6,8 @@ pub mod Acceptance
 pub mod BadLines
 pub mod Law
 pub mod Limits
+pub mod Versions
+pub mod RoundChains
 pub mod TraceText
 pub mod ClaimTexts
 pub mod TraceFault

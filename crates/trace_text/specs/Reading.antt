@@ -39,9 +39,9 @@ after_line Stage = codes "stage"
 after_line Closure = codes "closure"
 
 -- what is expected after it
-abbrev pub after_place : ℕ → After → Place
-after_place n Stage = next_row n n
-after_place n Closure = next_closure_row n n
+abbrev pub after_place : ℕ → ℕ → After → Place
+after_place version n Stage = next_row version n n
+after_place version n Closure = next_closure_row n n
 
 -- the line of the first of so many rows that is none
 abbrev pub rows_fault : ℕ → ℕ → ℕ → List (List ℕ) → Option ℕ

@@ -3,8 +3,9 @@ use Rattle.std.specs.Prelude.{◌≡◌, ◌==◌, ◌&&◌, nat_lt, Bool, ℕ, 
 use Rattle.std.specs.List.{list_any}
 use Rattle.pair_colours.specs.Colouring.{PairColouring, colour_at, triangles}
 use Rattle.pair_colours.specs.Naming.{walk, first_met, rank_of}
+use Rattle.pair_colours.specs.Rounds.{first_alike}
 use Rattle.trace_text.specs.declared.step_list.Step.{Step}
-use Rattle.trace_text.specs.declared.step_list.Step.TheVariants.{Diag, Flip, Tri}
+use Rattle.trace_text.specs.declared.step_list.Step.TheVariants.{Diag, Flip, Tri, Round}
 use Rattle.trace_text.specs.Partition.{coloured_by}
 
 -- where each pair (x, y) has the key `key x y`: a pair with a smaller key is in the class of (x, y)
@@ -26,11 +27,12 @@ abbrev pub key_in_class : PairColouring → ℕ → (ℕ → ℕ → ℕ) → �
 key_in_class P k key x y = if colour_at P x y == k then key x y else 0
 
 -- the key of (x, y) for a step on class k: whether it is on the diagonal, whether its transposed pair is in a class,
--- or how many points have one class from x and another to y
+-- or how many points have one class from x and another to y; and for a round, on all classes: which pair is the first that is alike
 abbrev pub key_of : PairColouring → Step → ℕ → ℕ → ℕ
 key_of P (Diag k) = key_in_class P k (λ x y. if x == y then 0 else 1)
 key_of P (Flip k other) = key_in_class P k (λ x y. if colour_at P y x == other then 0 else 1)
 key_of P (Tri k left right) = key_in_class P k (λ x y. triangles P x y left right)
+key_of P Round = first_alike P
 
 -- what the step makes of P
 abbrev pub split_of : PairColouring → Step → PairColouring
@@ -41,6 +43,7 @@ abbrev pub numbers_of : Step → List ℕ
 numbers_of (Diag k) = k ∷ []
 numbers_of (Flip k other) = k ∷ other ∷ []
 numbers_of (Tri k left right) = k ∷ left ∷ right ∷ []
+numbers_of Round = []
 
 -- the step names numbers of classes
 abbrev pub NamesClasses : PairColouring → Step → Type 0

@@ -8,14 +8,14 @@ use Rattle.trace_text.specs.declared.limits.TheConstants.{MOST_STEP_NUMBER}
 use Rattle.trace_text.specs.declared.trace_faults.TraceWord.{TraceWord}
 use Rattle.trace_text.specs.declared.trace_faults.TraceWord.TheVariants.{Head, Points, Stage, Row, Body, End, Extra}
 
--- what is expected: the first line, the number of points, the first stage; then, for n points,
+-- what is expected: the first line; then, for a version, the number of points; then, for n points too, the first stage,
 -- a row of a stage or of the closure, after which so many more are to come; a step, a stage or the closure; the last line; nothing
 pub data Place : Type 0 where
   at_head : Place
-  at_points : Place
-  at_stage : ℕ → Place
-  at_row : ℕ → ℕ → Place
-  at_body : ℕ → Place
+  at_points : ℕ → Place
+  at_stage : ℕ → ℕ → Place
+  at_row : ℕ → ℕ → ℕ → Place
+  at_body : ℕ → ℕ → Place
   at_closure_row : ℕ → ℕ → Place
   at_end : Place
   at_extra : Place
@@ -23,10 +23,10 @@ pub data Place : Type 0 where
 -- the word for what is expected
 abbrev pub word_at : Place → TraceWord
 word_at at_head = Head
-word_at at_points = Points
-word_at (at_stage n) = Stage
-word_at (at_row n more) = Row
-word_at (at_body n) = Body
+word_at (at_points version) = Points
+word_at (at_stage version n) = Stage
+word_at (at_row version n more) = Row
+word_at (at_body version n) = Body
 word_at (at_closure_row n more) = Row
 word_at at_end = End
 word_at at_extra = Extra
@@ -52,11 +52,15 @@ abbrev pub is_lettered : List ℕ → ℕ → List (List ℕ) → Bool
 is_lettered letter n [] = false
 is_lettered letter n (word ∷ words) = bytes_eq word letter && are_numbers MOST_STEP_NUMBER n words
 
--- a step line
-abbrev pub is_step_line : List ℕ → Bool
-is_step_line line =
+-- a step line of a version
+abbrev pub is_step_line : ℕ → List ℕ → Bool
+is_step_line version line =
     let words = between_spaces line in
-    is_lettered (codes "D") 1 words || is_lettered (codes "F") 2 words || is_lettered (codes "T") 3 words
+    is_lettered (codes "D") 1 words || is_lettered (codes "F") 2 words || is_lettered (codes "T") 3 words || (is_lettered (codes "R") 0 words && (version == 2))
+
+-- `trace` and a version
+abbrev pub version_on : List ℕ → Option ℕ
+version_on line = if bytes_eq line (codes "trace 1") then Some 1 else (if bytes_eq line (codes "trace 2") then Some 2 else None)
 
 -- `points` and a number of points
 abbrev pub points_on : List ℕ → Option ℕ
@@ -66,30 +70,35 @@ points_on line =
     then number_of (drop 7 line) else None
 
 -- what is expected where so many rows of a stage are to come
-abbrev pub next_row : ℕ → ℕ → Place
-next_row n zero = at_body n
-next_row n (suc more) = at_row n more
+abbrev pub next_row : ℕ → ℕ → ℕ → Place
+next_row version n zero = at_body version n
+next_row version n (suc more) = at_row version n more
 
 -- and of the closure
 abbrev pub next_closure_row : ℕ → ℕ → Place
 next_closure_row n zero = at_end
 next_closure_row n (suc more) = at_closure_row n more
 
+-- the number of points is expected after the version
+abbrev pub versioned : Option ℕ → Option Place
+versioned None = None
+versioned (Some version) = Some (at_points version)
+
 -- the first stage is expected after the number of points
-abbrev pub sized : Option ℕ → Option Place
-sized None = None
-sized (Some n) = Some (at_stage n)
+abbrev pub sized : ℕ → Option ℕ → Option Place
+sized version None = None
+sized version (Some n) = Some (at_stage version n)
 
 -- what is expected after this line, if the line may stand there
 abbrev pub next_place : Place → List ℕ → Option Place
-next_place at_head line = if bytes_eq line (codes "trace 1") then Some at_points else None
-next_place at_points line = sized (points_on line)
-next_place (at_stage n) line = if bytes_eq line (codes "stage") then Some (next_row n n) else None
-next_place (at_row n more) line = if is_row_line n line then Some (next_row n more) else None
-next_place (at_body n) line =
-    if bytes_eq line (codes "stage") then Some (next_row n n)
+next_place at_head line = versioned (version_on line)
+next_place (at_points version) line = sized version (points_on line)
+next_place (at_stage version n) line = if bytes_eq line (codes "stage") then Some (next_row version n n) else None
+next_place (at_row version n more) line = if is_row_line n line then Some (next_row version n more) else None
+next_place (at_body version n) line =
+    if bytes_eq line (codes "stage") then Some (next_row version n n)
     else (if bytes_eq line (codes "closure") then Some (next_closure_row n n)
-    else (if is_step_line line then Some (at_body n) else None))
+    else (if is_step_line version line then Some (at_body version n) else None))
 next_place (at_closure_row n more) line = if is_row_line n line then Some (next_closure_row n more) else None
 next_place at_end line = if bytes_eq line (codes "end") then Some at_extra else None
 next_place at_extra line = None

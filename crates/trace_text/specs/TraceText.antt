@@ -4,7 +4,7 @@ use Rattle.std.specs.List.{flat_map}
 use Rattle.relation_text.specs.Written.{matrix_row}
 use Rattle.pair_colours.specs.Colouring.{PairColouring, points}
 use Rattle.trace_text.specs.declared.step_list.Step.{Step}
-use Rattle.trace_text.specs.declared.step_list.Step.TheVariants.{Diag, Flip, Tri}
+use Rattle.trace_text.specs.declared.step_list.Step.TheVariants.{Diag, Flip, Tri, Round}
 use Rattle.trace_text.specs.declared.stage_list.Stage.{Stage}
 use Rattle.trace_text.specs.declared.stage_list.Claim.{Claim}
 use Rattle.trace_text.specs.Split.{numbers_of}
@@ -14,6 +14,7 @@ abbrev pub letter_of : Step → List ℕ
 letter_of (Diag k) = codes "D"
 letter_of (Flip k other) = codes "F"
 letter_of (Tri k left right) = codes "T"
+letter_of Round = codes "R"
 
 -- a step line: the letter, and the numbers that the step names
 abbrev pub step_line : Step → List ℕ
@@ -30,7 +31,7 @@ stage_lines stage = codes "stage" ∷ matrix_lines stage.colours ++ map step_lin
 -- the lines of a claim
 abbrev pub trace_lines : Claim → List (List ℕ)
 trace_lines claim =
-    codes "trace 1" ∷ (codes "points " ++ decimal claim.closure.size) ∷ flat_map stage_lines claim.chain
+    (codes "trace " ++ decimal claim.version) ∷ (codes "points " ++ decimal claim.closure.size) ∷ flat_map stage_lines claim.chain
     ++ codes "closure" ∷ matrix_lines claim.closure ++ codes "end" ∷ []
 
 -- lines as a text, each with its line end

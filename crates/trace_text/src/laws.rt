@@ -1,6 +1,6 @@
 //! Laws over the definitions alone. Each is the contract of a function that does nothing.
 
-ghost use Rattle.trace_text.specs.Law.{SplitIsPartition, SplitRefines, SplitRank, PartsOneClass, PartsTwoKeys, SplitKeepsCoherent, MeetIsNamedMeet, AcceptedIsClosure, ClosureOfMeet, StepsExist, VerdictExists, AcceptedHasNone, FirstBadLineIsUnique, TraceReadsOrFails, ReadingHasNoFault, ReadingIsUnique, TextIsReadBack, TextIsOfOneClaim, AcceptedFitsTrace, AcceptedTextFits};
+ghost use Rattle.trace_text.specs.Law.{SplitIsPartition, SplitRefines, SplitRank, PartsOneClass, PartsTwoKeys, SplitKeepsCoherent, MeetIsNamedMeet, AcceptedIsClosure, ClosureOfMeet, StepsExist, VerdictExists, AcceptedHasNone, FirstBadLineIsUnique, TraceReadsOrFails, ReadingHasNoFault, ReadingIsUnique, TextIsReadBack, TextIsOfOneClaim, AcceptedFitsTrace, AcceptedTextFits, RoundIsIdleOnCoherent, RoundChainEndsCoherent, RoundChainExists, RoundChainIsUnique, RoundChainIsOfColours, RoundClaimIsAccepted};
 ghost use Rattle.trace_text.specs.Limits.{AreLimits};
 
 /// A split keeps every coherent refinement below it: a coherent colouring that refines a
@@ -30,7 +30,24 @@ pub fn l8()
     ensures one_claim { TextIsOfOneClaim }
 {}
 
-/// From every partition some steps lead, each by a split, to a coherent partition.
+/// The step `R` is idle exactly on a coherent partition. So a chain of rounds, each of its stages with
+/// as many as are not idle, ends at a coherent partition.
+pub fn l9()
+    ensures idle { RoundIsIdleOnCoherent }
+    ensures ends { RoundChainEndsCoherent }
+{}
+
+/// A chain whose colours follow one another has exactly one chain of rounds, which depends on its
+/// colours alone. Where the chain is that of an accepted claim, its chain of rounds is accepted with
+/// the same closure, in a claim of version 2.
+pub fn round_chains()
+    ensures exists { RoundChainExists }
+    ensures unique { RoundChainIsUnique }
+    ensures of_colours { RoundChainIsOfColours }
+    ensures accepted { RoundClaimIsAccepted }
+{}
+
+/// From every partition some steps lead, each by a split of one class, to a coherent partition.
 pub fn l15()
     ensures { StepsExist }
 {}

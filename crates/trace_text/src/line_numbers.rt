@@ -70,9 +70,9 @@ pub(crate) fn read_row(colouring: &mut Colouring, x: u32, line: &[u8]) -> bool
     rest.is_none()
 }
 
-// The step that a line is, if it is one.
-pub(crate) fn read_step(line: &[u8]) -> Option<Step>
-    ensures { MatchOption result (is_step_line line.now ≡ false) (λ s. (line.now ≡ step_line s) × IsTraceStep s) }
+// The step that a line is, if it is one of this version.
+pub(crate) fn read_step(version: u32, line: &[u8]) -> Option<Step>
+    ensures { MatchOption result (is_step_line version line.now ≡ false) (λ s. (line.now ≡ step_line s) × IsTraceStep version s) }
 {
     let (letter, rest) = cut_word(line);
     if letter == b"D".as_slice() {
@@ -93,6 +93,10 @@ pub(crate) fn read_step(line: &[u8]) -> Option<Step>
             left: numbers[1],
             right: numbers[2],
         });
+    }
+    if version == 2 && letter == b"R".as_slice() {
+        step_numbers(rest, 0)?;
+        return Some(Step::Round);
     }
     None
 }

@@ -8,6 +8,7 @@ ghost use Rattle.trace_text.specs.declared.trace_faults.TraceWord.TheVariants as
 ghost use Rattle.trace_text.specs.TraceFault.{at_body, at_end, at_head, fault_from, next_closure_row, next_row, trace_fault};
 ghost use Rattle.trace_text.specs.TraceText.{matrix_lines, stage_lines, step_line};
 ghost use Rattle.trace_text.specs.ClaimTexts.{IsTraceStage, IsTraceStep, IsTraceText};
+ghost use Rattle.trace_text.specs.Versions.{IsVersion};
 ghost use Rattle.trace_text.specs.Reading.{IsFaultOf, rows_fault, after_line, after_place};
 
 use crate::limits::MOST_TRACE;
@@ -30,46 +31,56 @@ pub fn read_trace(alloc: Global, bytes: &[u8]) -> Result<Claim, TraceFault>
     ensures fault { IfErr result (λ fault. IsFaultOf fault (trace_fault bytes.now)) }
 {
     let mut cursor = TraceCursor::new(bytes);
-    let size = read_head(&mut cursor)?;
-    let chain = read_chain(alloc, &mut cursor, size)?;
+    let (version, size) = read_head(&mut cursor)?;
+    let chain = read_chain(alloc, &mut cursor, version, size)?;
     let closure = read_matrix(alloc, &mut cursor, size)?;
     read_end(&mut cursor)?;
-    Ok(Claim { chain, closure })
+    Ok(Claim {
+        version,
+        chain,
+        closure,
+    })
 }
 
-// Reads the lines before the rows of the first stage, and gives the number of points.
-fn read_head(cursor: &mut TraceCursor<'_>) -> Result<u32, TraceFault>
-    ensures lines { IfOk result (λ n. cursor.old.lines
-        ≡ codes "trace 1" ∷ (codes "points " ++ decimal n) ∷ codes "stage" ∷ cursor.new.lines) }
-    ensures some { IfOk result (λ n. 1 ≤ n) }
-    ensures few { IfOk result (λ n. n ≤ MOST_POINTS) }
-    ensures clean { IfOk result (λ n. fault_from cursor.old.line at_head cursor.old.lines
-        ≡ fault_from cursor.new.line (next_row n n) cursor.new.lines) }
+// Reads the lines before the rows of the first stage, and gives the version and the number of points.
+fn read_head(cursor: &mut TraceCursor<'_>) -> Result<(u32, u32), TraceFault>
+    ensures lines { IfOk result (λ head. cursor.old.lines
+        ≡ (codes "trace " ++ decimal head.0) ∷ (codes "points " ++ decimal head.1) ∷ codes "stage" ∷ cursor.new.lines) }
+    ensures version { IfOk result (λ head. IsVersion head.0) }
+    ensures some { IfOk result (λ head. 1 ≤ head.1) }
+    ensures few { IfOk result (λ head. head.1 ≤ MOST_POINTS) }
+    ensures clean { IfOk result (λ head. fault_from cursor.old.line at_head cursor.old.lines
+        ≡ fault_from cursor.new.line (next_row head.0 head.1 head.1) cursor.new.lines) }
     ensures fault { IfErr result (λ fault. IsFaultOf fault (fault_from cursor.old.line at_head cursor.old.lines)) }
 {
-    cursor.fixed(b"trace 1", TraceWord::Head)?;
+    let version = cursor.version()?;
     let size = cursor.points()?;
     cursor.fixed(b"stage", TraceWord::Stage)?;
-    Ok(size)
+    Ok((version, size))
 }
 
 // Reads the stages after the line of the first, and the line of the closure.
-fn read_chain(alloc: Global, cursor: &mut TraceCursor<'_>, size: u32) -> Result<Chain, TraceFault>
+fn read_chain(
+    alloc: Global,
+    cursor: &mut TraceCursor<'_>,
+    version: u32,
+    size: u32,
+) -> Result<Chain, TraceFault>
     requires some { 1 ≤ size }
     requires few { size ≤ MOST_POINTS }
     ensures lines { IfOk result (λ chain. codes "stage" ∷ cursor.old.lines
         ≡ flat_map stage_lines chain ++ (codes "closure" ∷ cursor.new.lines)) }
-    ensures stages { IfOk result (λ chain. AllByRecursion (IsTraceStage size) chain) }
+    ensures stages { IfOk result (λ chain. AllByRecursion (IsTraceStage version size) chain) }
     ensures some { IfOk result (λ chain. 1 ≤ length chain) }
-    ensures clean { OnOk result (fault_from cursor.old.line (next_row size size) cursor.old.lines
+    ensures clean { OnOk result (fault_from cursor.old.line (next_row version size size) cursor.old.lines
         ≡ fault_from cursor.new.line (next_closure_row size size) cursor.new.lines) }
     ensures fault { IfErr result
-        (λ fault. IsFaultOf fault (fault_from cursor.old.line (next_row size size) cursor.old.lines)) }
+        (λ fault. IsFaultOf fault (fault_from cursor.old.line (next_row version size size) cursor.old.lines)) }
 {
     let mut chain = Chain::new(alloc);
     loop {
         let colours = read_matrix(alloc, cursor, size)?;
-        let (steps, after) = read_steps(alloc, cursor)?;
+        let (steps, after) = read_steps(alloc, cursor, version)?;
         chain.push(Stage { colours, steps })?;
         match after {
             After::Stage => {}
@@ -116,14 +127,18 @@ enum After {
 }
 
 // Reads the steps of a stage, and the line that ends them.
-fn read_steps(alloc: Global, cursor: &mut TraceCursor<'_>) -> Result<(Steps, After), TraceFault>
+fn read_steps(
+    alloc: Global,
+    cursor: &mut TraceCursor<'_>,
+    version: u32,
+) -> Result<(Steps, After), TraceFault>
     ensures lines { IfOk result
         (λ found. cursor.old.lines ≡ map step_line found.0 ++ (after_line found.1 ∷ cursor.new.lines)) }
-    ensures small { IfOk result (λ found. AllByRecursion IsTraceStep found.0) }
+    ensures small { IfOk result (λ found. AllByRecursion (IsTraceStep version) found.0) }
     ensures clean { IfOk result (λ found. (n : ℕ)
-        → fault_from cursor.old.line (at_body n) cursor.old.lines ≡ fault_from cursor.new.line (after_place n found.1) cursor.new.lines) }
+        → fault_from cursor.old.line (at_body version n) cursor.old.lines ≡ fault_from cursor.new.line (after_place version n found.1) cursor.new.lines) }
     ensures fault { IfErr result
-        (λ fault. (n : ℕ) → IsFaultOf fault (fault_from cursor.old.line (at_body n) cursor.old.lines)) }
+        (λ fault. (n : ℕ) → IsFaultOf fault (fault_from cursor.old.line (at_body version n) cursor.old.lines)) }
 {
     let mut steps = Steps::new(alloc);
     loop {
@@ -135,7 +150,7 @@ fn read_steps(alloc: Global, cursor: &mut TraceCursor<'_>) -> Result<(Steps, Aft
         if bytes == b"closure".as_slice() {
             return Ok((steps, After::Closure));
         }
-        let Some(step) = read_step(bytes) else {
+        let Some(step) = read_step(version, bytes) else {
             return Err(TraceFault::Text {
                 line,
                 what: TraceWord::Body,

@@ -67,6 +67,8 @@ impl Chain {
 /// A chain, and a colouring that is claimed to be the closure of the colours of its last stage.
 #[derive(Drop)]
 pub struct Claim {
+    /// The version of the format: 1, in which no step is a round, or 2.
+    pub version: u32,
     pub chain: Chain,
     pub closure: Colouring,
 }

@@ -6,7 +6,7 @@ use pair_colours::NoMemory;
 use std::alloc::Global;
 use std::marker::Model;
 
-/// A step splits one class of a partition of the pairs. Classes are named by their numbers.
+/// A step splits one class of a partition of the pairs, or each. Classes are named by their numbers.
 #[derive(Clone, Copy, Debug, PartialEq, Eq)]
 pub enum Step {
     /// Parts the diagonal pairs of the class from the others.
@@ -16,6 +16,10 @@ pub enum Step {
     /// Parts the pairs of the class by how many points have the class `left` from the first point
     /// and the class `right` to the second.
     Tri { class: u32, left: u32, right: u32 },
+    /// Parts the pairs of each class by the diagonal, by the class of the transposed pair, and by how
+    /// many points have each class from the first point and each to the second: one round of
+    /// Weisfeiler-Leman refinement.
+    Round,
 }
 
 /// A list of steps.

@@ -4,7 +4,8 @@ ghost use Rattle.std.specs.Prelude.{◌≡◌, ◌+◌, ◌<◌, ◌≤◌, ◌^
 ghost use Rattle.text_lines.specs.Lines.{lines_of};
 ghost use Rattle.trace_text.specs.declared.trace_faults.TraceFault.TheVariants as faults;
 ghost use Rattle.trace_text.specs.declared.trace_faults.TraceWord.TheVariants as words;
-ghost use Rattle.trace_text.specs.TraceFault.{points_on};
+ghost use Rattle.trace_text.specs.TraceFault.{points_on, version_on};
+ghost use Rattle.trace_text.specs.Versions.{IsVersion};
 ghost use Rattle.trace_text.specs.Reading.{first_passes};
 
 use crate::trace_faults::{TraceFault, TraceWord};
@@ -85,6 +86,25 @@ impl<'a> TraceCursor<'a> {
         Ok(())
     }
 
+    // Takes the first line, which tells the version.
+    pub(crate) fn version(&mut self) -> Result<u32, TraceFault>
+        ensures taken { IfOk result (λ version. self.old.lines ≡ (codes "trace " ++ decimal version) ∷ self.new.lines) }
+        ensures known { IfOk result (λ version. IsVersion version) }
+        ensures number { OnOk result (self.new.line ≡ self.old.line + 1) }
+        ensures other { IfErr result (λ _. first_passes (λ line. is_some (version_on line)) self.old.lines ≡ false) }
+        ensures fault { IfErr result (λ fault. fault ≡ faults.Text self.old.line words.Head) }
+    {
+        let line = self.line;
+        let bytes = self.take(TraceWord::Head)?;
+        match version_in(bytes) {
+            Some(version) => Ok(version),
+            None => Err(TraceFault::Text {
+                line,
+                what: TraceWord::Head,
+            }),
+        }
+    }
+
     // Takes the line of the number of points.
     pub(crate) fn points(&mut self) -> Result<u32, TraceFault>
         ensures taken { IfOk result (λ n. self.old.lines ≡ (codes "points " ++ decimal n) ∷ self.new.lines) }
@@ -119,6 +139,19 @@ impl<'a> TraceCursor<'a> {
             None => Ok(()),
         }
     }
+}
+
+// The version that a line tells, if it does.
+fn version_in(line: &[u8]) -> Option<u32>
+    ensures { result ≡ version_on line.now }
+{
+    if line == b"trace 1".as_slice() {
+        return Some(1);
+    }
+    if line == b"trace 2".as_slice() {
+        return Some(2);
+    }
+    None
 }
 
 // The number of points that a line tells, if it does.

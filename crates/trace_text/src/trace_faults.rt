@@ -9,7 +9,7 @@ use thiserror::Error;
 /// What was expected in the place of a line of a trace.
 #[derive(Clone, Copy, Debug, PartialEq, Eq)]
 pub enum TraceWord {
-    /// The line `trace 1`, the first.
+    /// The line `trace 1` or `trace 2`, the first.
     Head,
     /// The line `points N`, the second.
     Points,

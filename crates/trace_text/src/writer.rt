@@ -10,18 +10,21 @@ use relation_text::put_rows;
 use std::alloc::{AllocError, Global};
 use text_lines::Text;
 
-/// The text of the trace with these stages that claims this closure. It is read back as that claim
-/// where there is a stage, all have the points of the closure, and all numbers are within the limits.
+/// The text of the trace of a version with these stages that claims this closure. It is read back as
+/// that claim where the version is 1 or 2 and has the steps, there is a stage, all have the points of
+/// the closure, and all numbers are within the limits.
 pub fn write_trace(
     alloc: Global,
+    version: u32,
     stages: &[Stage],
     closure: &Colouring,
 ) -> Result<Vec<u8>, NoMemory>
     ensures { IfOk result
-        (λ text. text.items ≡ trace_text (record { chain = stages.now; closure = closure.now })) }
+        (λ text. text.items ≡ trace_text (record { version = version; chain = stages.now; closure = closure.now })) }
 {
     let mut text = Text::new(alloc);
-    text.put_field(b"trace 1\npoints ", closure.size())?;
+    text.put_field(b"trace ", version)?;
+    text.put_field(b"\npoints ", closure.size())?;
     text.put(b"\n")?;
     for stage in stages {
         put_stage(&mut text, stage)?;
@@ -59,6 +62,7 @@ fn put_step(text: &mut Text, step: Step) -> Result<(), AllocError>
             text.put_field(b" ", left)?;
             text.put_field(b" ", right)?;
         }
+        Step::Round => text.put(b"R")?,
     }
     text.put(b"\n")
 }

@@ -1,14 +1,17 @@
 -- Steps that lead on.
 use Rattle.std.proofs.Common.{◌≡◌, ℕ, ◌*◌, ◌-◌, ◌<◌, List, [], ◌∷◌, ◌++◌, length, refl, sym, subst, ◌∙◌, ap, arith}
+use Rattle.std.specs.List.{AllByRecursion}
 use Rattle.std.proofs.lemmas.List.{append_assoc, append-nil, length-append}
 use Rattle.pair_colours.specs.Colouring.{PairColouring}
 use Rattle.pair_colours.specs.Naming.{rank_of}
+use Rattle.pair_colours.proofs.ListLemmas.{Each-append}
 use Rattle.trace_text.specs.Partition.{IsPartition}
 use Rattle.trace_text.proofs.Splits.{rank_grows, IsPartition-split_of}
 use Rattle.trace_text.proofs.Ranks.{rank_of-le_pairs}
 use Rattle.trace_text.proofs.Leads.{lead_below}
 use Rattle.trace_text.specs.declared.step_list.Step.{Step}
 use Rattle.trace_text.specs.Split.{IsAllowed, Lead, split_of}
+use Rattle.trace_text.specs.Versions.{HasStep}
 use Rattle.wl_refine.specs.Way.{Walked, LeadsOn}
 
 -- one list of steps after another
@@ -36,6 +39,10 @@ more_classes P P2 s h a e = omega (arith, rank_grows P s h a, ap rank_of e)
 
 pub fewer_steps : (steps new : List Step) (s : Step) (rank rank2 : ℕ) → length steps < rank → rank < rank2 → new ≡ steps ++ s ∷ [] → length new < rank2
 fewer_steps steps new s rank rank2 l g e = omega (arith, l, g, ap length e, length-append steps (s ∷ []))
+
+-- they are on one class, each
+pub one_class_more : (steps new : List Step) (s : Step) → AllByRecursion (HasStep 1) steps → HasStep 1 s → new ≡ steps ++ s ∷ [] → AllByRecursion (HasStep 1) new
+one_class_more steps new s each one e = subst (AllByRecursion (HasStep 1)) (sym e) (Each-append (HasStep 1) steps (s ∷ []) each (one, tt))
 
 -- how many classes may still be added
 abbrev pub classes_left : PairColouring → ℕ

@@ -1,3 +1,5 @@
 mod Leading
 mod Reached
 mod Forced
+mod MadeRounds
+mod RoundedStages

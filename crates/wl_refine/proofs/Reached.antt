@@ -1,22 +1,20 @@
 -- What steps up to a coherent partition reach.
-use Rattle.std.proofs.Common.{◌≡◌, sym, subst, ap, arith, ◌∙◌}
+use Rattle.std.proofs.Common.{◌≡◌, sym, subst, ap, arith}
+use Rattle.std.specs.List.{AllByRecursion}
 use Rattle.pair_colours.specs.Colouring.{PairColouring, IsColouring}
 use Rattle.pair_colours.specs.Closure.{Coherent, IsClosureOf}
 use Rattle.pair_colours.specs.Naming.{named_of, rank_of, IsNamedMeet}
-use Rattle.pair_colours.proofs.Closures.{IsClosureOf-named_of, refines-named_of, named_of-refines, named_of-named_of}
+use Rattle.pair_colours.proofs.Closures.{IsClosureOf-named_of, refines-named_of, named_of-refines}
 use Rattle.pair_colours.proofs.Places.{Refines-trans}
 use Rattle.trace_text.specs.Partition.{IsPartition}
 use Rattle.trace_text.specs.Split.{Lead}
+use Rattle.trace_text.specs.Versions.{HasStep}
 use Rattle.trace_text.proofs.Leads.{lead_below}
 use Rattle.trace_text.proofs.Meeting.{meet_below}
 use Rattle.trace_text.proofs.Partitions.{IsPartition-named_of, rank_of-named_of}
 use Rattle.trace_text.proofs.Stages.{IsBetween}
 use Rattle.wl_refine.specs.declared.closing.Closed.{Closed}
 use Rattle.wl_refine.specs.Closed.{IsReached, IsForced}
-
--- a naming is named already
-pub named_again : (C N : PairColouring) → IsColouring C → N ≡ named_of C → named_of N ≡ N
-named_again C N c e = ap named_of e ∙ named_of-named_of C c ∙ sym e
 
 -- the naming of a colouring is between it and its closure
 pub IsBetween-named_of : (C : PairColouring) → IsColouring C → IsBetween C (named_of C)
@@ -47,12 +45,13 @@ IsClosureOf-reached C start closed b r =
       coarsest = λ Q q h s. below.keeps Q q h (b.keeps Q q h s);
     }))
 
-pub IsReached-from : (start : PairColouring) (closed : Closed) → IsPartition start → Lead closed.steps start closed.last → Coherent closed.last
-    → closed.matrix ≡ named_of closed.last → IsReached start closed
-IsReached-from start closed h l c n =
+pub IsReached-from : (start : PairColouring) (closed : Closed) → IsPartition start → Lead closed.steps start closed.last → AllByRecursion (HasStep 1) closed.steps
+    → Coherent closed.last → closed.matrix ≡ named_of closed.last → IsReached start closed
+IsReached-from start closed h l o c n =
     let below = lead_below closed.steps start closed.last h l in
     record {
       leads = l;
+      one_class = o;
       coherent = c;
       names = n;
       few = omega (arith, below.rank, rank_of-named_of closed.last below.partition.colouring, ap rank_of n);

@@ -1,7 +1,8 @@
 //! The search for steps. It may choose as it likes: a step is taken up only where it splits a class,
 //! and the exact test of the whole decides when the partition is coherent.
 
-ghost use Rattle.std.specs.Prelude.{OnOk};
+ghost use Rattle.std.specs.Prelude.{OnOk, IfSome};
+ghost use Rattle.trace_text.specs.Versions.{HasStep};
 ghost use Rattle.wl_refine.specs.Way.{LeadsOn};
 
 use crate::ways::Way;
@@ -10,9 +11,10 @@ use split_cells::{Cells, Comparison};
 use std::alloc::Global;
 use trace_text::Step;
 
-// Makes a step, if there is one that names classes, and says whether it split one.
+// Makes a step on one class, if there is one that names classes, and says whether it split one.
 #[tactic(auto, using(crate::proofs::Leading::leads_on_after, crate::proofs::Leading::leads_on_here))]
 fn tried(way: &mut Way, step: Option<Step>) -> Result<bool, NoMemory>
+    requires { IfSome step (HasStep 1) }
     ensures { OnOk result (LeadsOn way.old way.new) }
 {
     match step {

@@ -5,13 +5,24 @@ use pair_colours::{Colouring, NoMemory};
 use split_cells::Cells;
 use std::alloc::Global;
 use std::test::Fail;
-use trace_text::Steps;
+use trace_text::{Chain, Stage, Step, Steps};
+
+// Whether the step is on one class, and splits it.
+fn splits(cells: &mut Cells, step: Step) -> bool {
+    match step {
+        Step::Round => false,
+        one_class => {
+            let named = cells.names(one_class);
+            named && cells.split(one_class)
+        }
+    }
+}
 
 // Whether the steps split one class after the other.
 fn made(cells: &mut Cells, steps: &Steps) -> bool {
     for i in 0..steps.len() {
-        let step = steps.at(i);
-        if !(cells.names(step) && cells.split(step)) {
+        let split = splits(cells, steps.at(i));
+        if !split {
             return false;
         }
     }
@@ -118,5 +129,53 @@ fn a_cycle_with_a_point_fixed(rt: HostRuntime) -> Result<(), Fail> {
         first_row(alloc, &closed.matrix)?.as_slice(),
         [0, 3, 4, 4, 3].as_slice()
     );
+    Ok(())
+}
+
+// The rounds of one stage of these colours.
+fn rounded(alloc: Global, colours: Colouring) -> Result<Chain, NoMemory> {
+    let mut chain = Chain::new(alloc);
+    chain.push(Stage {
+        colours,
+        steps: Steps::new(alloc),
+    })?;
+    rounds(alloc, chain.as_slice())
+}
+
+// Whether the steps are rounds from the naming of this colouring to a coherent partition, none of
+// them idle.
+fn are_rounds(alloc: Global, start: &Colouring, steps: &Steps) -> Result<bool, NoMemory> {
+    let _size = start.size();
+    let named = start.named(alloc)?;
+    let mut cells = Cells::of(alloc, &named)?;
+    for i in 0..steps.len() {
+        let split = cells.round(alloc)?;
+        if !split || steps.at(i) != Step::Round {
+            return Ok(false);
+        }
+    }
+    let fault = cells.first_fault(alloc)?;
+    Ok(fault.is_none())
+}
+
+// The path 2, 0, 4, 3, 1: the first round tells its ends from the other points, and the second its
+// middle.
+#[test]
+fn a_path_in_rounds(rt: HostRuntime) -> Result<(), Fail> {
+    let alloc = rt.alloc();
+    let rows: [&[u32]; 5] = [
+        &[0, 2, 1, 2, 1],
+        &[2, 0, 2, 1, 2],
+        &[1, 2, 0, 2, 2],
+        &[2, 1, 2, 0, 1],
+        &[1, 2, 2, 1, 0],
+    ];
+    let raw = Colouring::from_rows(alloc, &rows)?;
+    let chain = rounded(alloc, raw.copy(alloc)?)?;
+    assert_eq!(rt; chain.as_slice().len(), 1);
+    for stage in chain.as_slice() {
+        assert_eq!(rt; stage.steps.len(), 2);
+        assert!(rt; are_rounds(alloc, &raw, &stage.steps)?);
+    }
     Ok(())
 }

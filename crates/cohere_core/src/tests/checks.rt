@@ -15,7 +15,7 @@ const TRACE: &[u8] = b"trace 1\npoints 2\nstage\n7 7\n7 7\nD 0\nclosure\n0 1\n1 
 const YES: &[u8] = b"accepted points 2 rank 2 steps 1\n";
 
 // Traces of claims that are accepted: also without its last line end.
-const ACCEPTED: [(&[u8], &[u8]); 3] = [
+const ACCEPTED: [(&[u8], &[u8]); 6] = [
     (TRACE, YES),
     (
         b"trace 1\npoints 2\nstage\n7 7\n7 7\nD 0\nclosure\n0 1\n1 0\nend",
@@ -25,10 +25,22 @@ const ACCEPTED: [(&[u8], &[u8]); 3] = [
         b"trace 1\npoints 2\nstage\n0 1\n2 0\nT 0 1 2\nclosure\n0 2\n3 1\nend\n",
         b"accepted points 2 rank 4 steps 1\n",
     ),
+    (
+        b"trace 2\npoints 3\nstage\n0 1 2\n1 0 1\n2 1 0\nR\nclosure\n0 2 3\n4 1 4\n3 2 0\nend\n",
+        b"accepted points 3 rank 5 steps 1\n",
+    ),
+    (
+        b"trace 2\npoints 2\nstage\n7 7\n7 7\nR\nclosure\n0 1\n1 0\nend\n",
+        YES,
+    ),
+    (
+        b"trace 2\npoints 2\nstage\n7 7\n7 7\nD 0\nclosure\n0 1\n1 0\nend\n",
+        YES,
+    ),
 ];
 
 // Traces of claims that are not.
-const REFUSED: [(&[u8], &[u8]); 7] = [
+const REFUSED: [(&[u8], &[u8]); 9] = [
     (
         b"trace 1\npoints 2\nstage\n7 7\n7 7\nD 0\nD 0\nclosure\n0 1\n1 0\nend\n",
         b"refused line 7 IdleStep\n",
@@ -57,10 +69,18 @@ const REFUSED: [(&[u8], &[u8]); 7] = [
         b"trace 1\npoints 2\nstage\n0 1\n2 0\nT 0 1 1\nclosure\n0 2\n3 1\nend\n",
         b"refused line 6 IdleStep\n",
     ),
+    (
+        b"trace 2\npoints 2\nstage\n7 7\n7 7\nR\nR\nclosure\n0 1\n1 0\nend\n",
+        b"refused line 7 IdleStep\n",
+    ),
+    (
+        b"trace 2\npoints 2\nstage\n7 7\n7 7\nclosure\n0 1\n1 0\nend\n",
+        b"refused line 6 NotCoherent\n",
+    ),
 ];
 
 // Files that are no trace.
-const BAD: [(&[u8], &[u8]); 9] = [
+const BAD: [(&[u8], &[u8]); 11] = [
     (
         b"trace 1\npoints 2\nstage\n7 7\n7 7\nD 0\nclosure\n0 1\n1 0\n",
         b"cohere: T: line 10 End\n",
@@ -87,6 +107,14 @@ const BAD: [(&[u8], &[u8]); 9] = [
     ),
     (
         b"trace 1\npoints 2\nstage\n7 7\n7 7\nT 0 0 65536\nclosure\n0 1\n1 0\nend\n",
+        b"cohere: T: line 6 Body\n",
+    ),
+    (
+        b"trace 1\npoints 2\nstage\n7 7\n7 7\nR\nclosure\n0 1\n1 0\nend\n",
+        b"cohere: T: line 6 Body\n",
+    ),
+    (
+        b"trace 2\npoints 2\nstage\n7 7\n7 7\nR 0\nclosure\n0 1\n1 0\nend\n",
         b"cohere: T: line 6 Body\n",
     ),
     (

@@ -43,13 +43,15 @@ const RELATIONS: [(&[u8], &[u8]); 15] = [
 ];
 
 // Files that are no script; blank lines count.
-const SCRIPTS: [(&[u8], &[u8]); 7] = [
+const SCRIPTS: [(&[u8], &[u8]); 9] = [
     (b"show\x01\n", b"cohere: S: line 1 BadByte\n"),
     (b"shwo\n", b"cohere: S: line 1 UnknownWord\n"),
     (b"show\nfix\n", b"cohere: S: line 2 WrongCount\n"),
     (b"fix 01\n", b"cohere: S: line 1 BadNumber\n"),
     (b"show\nmergings 0\n", b"cohere: S: line 2 BadLimit\n"),
     (b"direct -\n", b"cohere: S: line 1 BadName\n"),
+    (b"trace 1\n", b"cohere: S: line 1 UnknownWord\n"),
+    (b"show\ntrace 2 2\n", b"cohere: S: line 2 WrongCount\n"),
     (b"show\n\nfuse 0 x\n", b"cohere: S: line 3 BadNumber\n"),
 ];
 

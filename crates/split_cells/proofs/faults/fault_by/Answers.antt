@@ -2,7 +2,7 @@ use Rattle.std.proofs.Common.{ℕ, ◌<◌}
 use Rattle.pair_colours.specs.Closure.{Coherent}
 use Rattle.split_cells.specs.Pairs.{partition_of}
 use Rattle.split_cells.specs.Faults.{HasLikeRowsOnce}
-use Rattle.split_cells.proofs.SumCounts.{IfNone-more}
+use Rattle.wl_round.proofs.SumCounts.{IfNone-more}
 use Rattle.split_cells.proofs.FellowPairs.{coherent_from}
 use Rattle.split_cells.proofs.faults.fault_by.Goals as goal
 

@@ -3,7 +3,7 @@ use Rattle.std.proofs.lemmas.Bool.{cases_Bool, OnTrue_at, OnFalse_at}
 use Rattle.trace_text.specs.declared.step_list.Step.{Step}
 use Rattle.split_cells.specs.Pairs.{partition_of}
 use Rattle.split_cells.specs.Faults.{SplitsTwo}
-use Rattle.split_cells.specs.CodeCounts.{AreSides, IsCountOf}
+use Rattle.wl_round.specs.CodeCounts.{AreSides, IsCountOf}
 use Rattle.split_cells.specs.Fellows.{HasCodeCounts}
 use Rattle.split_cells.proofs.FellowPairs.{AreSidesOf-from, sum_counts, splits_codes, AreSides-of, IsCountOf-codes}
 use Rattle.split_cells.proofs.faults.odd_pair.Goals as goal

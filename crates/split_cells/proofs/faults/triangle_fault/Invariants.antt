@@ -1,7 +1,7 @@
 use Rattle.std.proofs.Common.{ℕ, ◌*◌, ◌<◌}
 use Rattle.split_cells.specs.Pairs.{partition_of}
 use Rattle.split_cells.specs.Faults.{HasLikeRowsOnce}
-use Rattle.split_cells.specs.CodeCounts.{AreBlank}
+use Rattle.wl_round.specs.CodeCounts.{AreBlank}
 use Rattle.split_cells.proofs.faults.triangle_fault.Given as goal
 
 abbrev pub invariant-loop-k : goal.invariant-loop-k

@@ -1,6 +1,6 @@
 use Rattle.std.proofs.Common.{◌*◌, ◌<◌, get_or, sym, subst, ◌∙◌, arith}
 use Rattle.std.proofs.lemmas.List.{get_or_read}
-use Rattle.split_cells.specs.CodeCounts.{AreSides}
+use Rattle.wl_round.specs.CodeCounts.{AreSides}
 use Rattle.split_cells.proofs.KeyLemmas.{some_member}
 use Rattle.split_cells.proofs.FellowPairs.{AreSidesOf-from, sum_counts, AreSides-of, like_single, like_codes, like_transposed}
 use Rattle.split_cells.proofs.faults.triangle_fault_in.Goals as goal

@@ -2,9 +2,15 @@ use Rattle.std.proofs.Common.{◌≡◌, subst, ◌∙◌}
 use Rattle.std.proofs.lemmas.Result.{IfOk-weaker}
 use Rattle.pair_colours.specs.Colouring.{PairColouring}
 use Rattle.pair_colours.specs.Naming.{IsNamedMeet}
-use Rattle.trace_text.specs.Partition.{meet_of}
+use Rattle.trace_text.specs.Partition.{IsPartition, meet_of}
 use Rattle.trace_text.proofs.Meeting.{IsNamedMeet-unique, IsNamedMeet-meet_of}
+use Rattle.trace_text.proofs.Partitions.{IsPartition-named_of}
 use Rattle.trace_check.proofs.partitions.later_start.Goals as goal
+
+pub of-requires : goal.of-requires
+of-requires c =
+    let meet = c.in_ok-meet.ensures in
+    subst IsPartition meet.named (IsPartition-named_of c.in_ok-meet.meet meet.colouring)
 
 pub returns : goal.returns
 returns c =

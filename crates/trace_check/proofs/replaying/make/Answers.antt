@@ -9,4 +9,4 @@ returns-then-not-named-clause-refused c = λ line.
 
 pub returns-then-not-split-clause-refused : goal.returns-then-not-split-clause-refused
 returns-then-not-split-clause-refused c = λ line.
-    idle_step line c.args.cells.now c.args.step (c.names-named.ensures.0 c.if-not-named.false) (λ h. false≢true (sym c.if-not-split.true ∙ c.split-split.ensures.split.1 h))
+    idle_step line c.args.cells.now c.args.step (c.names-named.ensures.0 c.if-not-named.false) (λ h. false≢true (sym c.if-not-split.true ∙ c.in_ok-split.ensures.split.1 h))

@@ -1,14 +1,16 @@
-use Rattle.std.proofs.Common.{subst, ◌∙◌}
+use Rattle.std.proofs.Common.{sym, subst, ◌∙◌}
 use Rattle.std.proofs.lemmas.Result.{IfOk-weaker}
 use Rattle.pair_colours.specs.Colouring.{PairColouring}
 use Rattle.pair_colours.specs.Closure.{IsClosureOf}
 use Rattle.pair_colours.specs.Naming.{named_of}
+use Rattle.trace_text.specs.Partition.{IsPartition}
+use Rattle.trace_text.proofs.Partitions.{IsPartition-named_of}
 use Rattle.wl_refine.specs.Closed.{IsReached}
-use Rattle.wl_refine.proofs.Reached.{named_again, IsBetween-named_of, IsClosureOf-reached}
+use Rattle.wl_refine.proofs.Reached.{IsBetween-named_of, IsClosureOf-reached}
 use Rattle.wl_refine.proofs.closing.close.Goals as goal
 
 pub of-requires : goal.of-requires
-of-requires c = named_again c.args.raw.now c.in_ok-named.named c.size-size.ensures.within.colouring c.in_ok-named.ensures
+of-requires c = subst IsPartition (sym c.in_ok-named.ensures) (IsPartition-named_of c.args.raw.now c.size-size.ensures.within.colouring)
 
 pub returns-clause-closure : goal.returns-clause-closure
 returns-clause-closure c =

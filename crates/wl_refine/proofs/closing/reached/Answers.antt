@@ -16,6 +16,7 @@ returns c =
     let same : last ≡ now.cells = c.in_ok-last.ensures.classes ∙ c.cells.ensures in
     let leads = leads_from_start start c.from-way.result now c.from-way.ensures.steps c.from-way.ensures.cells c.in_ok-finish.ensures.on in
     IsReached-from start _ (subst IsPartition c.from-way.ensures.cells c.from-way.ensures.within)
-    (subst (λ (l : List Step). Lead l start last) (sym c.into_steps.ensures) (subst (λ (P : PairColouring). Lead now.steps start P) (sym same) leads))
+    (subst (λ (l : List Step). Lead l start last) (sym c.into_steps.ensures.steps) (subst (λ (P : PairColouring). Lead now.steps start P) (sym same) leads))
+    c.into_steps.ensures.one_class
     (subst (λ (P : PairColouring). Coherent P) (sym same) c.in_ok-finish.ensures.coherent)
     c.in_ok-matrix.ensures

@@ -1,6 +1,8 @@
-use Rattle.std.proofs.Common.{◌+◌, length, take, drop, All, sym, ap, subst, ◌∙◌, arith}
+use Rattle.std.proofs.Common.{◌+◌, length, take, drop, All, None, sym, ap, subst, ◌∙◌, arith}
+use Rattle.pair_colours.specs.Colouring.{IsColouring}
+use Rattle.trace_text.specs.RoundChains.{AreFollowing}
 use Rattle.recolour_bench.specs.History.{Entry, present_chain}
-use Rattle.recolour_bench.proofs.Chains.{IsRawStage}
+use Rattle.recolour_bench.proofs.Chains.{IsRawStage, colourings-sound, following-sound}
 use Rattle.recolour_bench.proofs.Keeping.{low_from, IsPresentEntry-kept}
 use Rattle.recolour_bench.proofs.history.Bench.chain.Goals as goal
 
@@ -22,3 +24,13 @@ pub returns-clause-within : goal.returns-clause-within
 returns-clause-within c =
     subst (All IsRawStage) (sym (c.stages_from.ensures ∙ ap (λ stages. drop c.index.result.now.start (take (c.self.inside.position + 1) stages)) c.deref.ensures.value))
     (IsPresentEntry-kept c.self.inside.stages.items c.self.inside.kept.items c.self.inside.position c.index.result.now c.self.invariant c.index.ensures).sound.colours
+
+pub returns-clause-colourings : goal.returns-clause-colourings
+returns-clause-colourings c =
+    subst (All (λ stage. IsColouring stage.colours)) (sym (c.stages_from.ensures ∙ ap (λ stages. drop c.index.result.now.start (take (c.self.inside.position + 1) stages)) c.deref.ensures.value))
+    (colourings-sound _ _ (IsPresentEntry-kept c.self.inside.stages.items c.self.inside.kept.items c.self.inside.position c.index.result.now c.self.invariant c.index.ensures).sound)
+
+pub returns-clause-following : goal.returns-clause-following
+returns-clause-following c =
+    subst (AreFollowing None) (sym (c.stages_from.ensures ∙ ap (λ stages. drop c.index.result.now.start (take (c.self.inside.position + 1) stages)) c.deref.ensures.value))
+    (following-sound _ _ (IsPresentEntry-kept c.self.inside.stages.items c.self.inside.kept.items c.self.inside.position c.index.result.now c.self.invariant c.index.ensures).sound)

@@ -2,15 +2,14 @@ use Rattle.std.proofs.Common.{◌≡◌, ◌*◌, List, ℕ, length, get_or, map
 use Rattle.split_cells.specs.Grids.{IsTurned}
 use Rattle.split_cells.specs.Sorted.{IsNumbered}
 use Rattle.split_cells.specs.Labels.{AreLabels}
-use Rattle.split_cells.proofs.CellLemmas.{IsNumbered-partition, IsPartition-named, IsBlank-zeros}
+use Rattle.split_cells.proofs.CellLemmas.{IsNumbered-partition, IsBlank-zeros}
 use Rattle.split_cells.proofs.PartLemmas.{IsUsed-few}
 use Rattle.split_cells.proofs.Exchanged.{map_same}
 use Rattle.split_cells.proofs.cells.Cells.of.Goals as goal
 
 pub parted-requires-clause-numbered : goal.parted-requires-clause-numbered
 parted-requires-clause-numbered c =
-    subst (λ (l : List ℕ). IsNumbered l) (sym c.colours.ensures.colours)
-    (IsNumbered-partition c.args.colouring.now (IsPartition-named c.args.colouring.now c.size-points.ensures.within.colouring c.requires))
+    subst (λ (l : List ℕ). IsNumbered l) (sym c.colours.ensures.colours) (IsNumbered-partition c.args.colouring.now c.requires)
 
 pub invariant_of-result : goal.invariant_of-result
 invariant_of-result c =

@@ -4,8 +4,10 @@ use Rattle.pair_colours.specs.Colouring.{PairColouring}
 use Rattle.pair_colours.specs.Naming.{rank_of}
 use Rattle.trace_text.specs.declared.step_list.Step.{Step}
 use Rattle.trace_text.specs.Split.{HasParts, numbers_of, split_of}
+use Rattle.trace_text.specs.Versions.{HasStep}
 use Rattle.split_cells.specs.Faults.{NamesBelow}
 use Rattle.split_cells.specs.Kept.{shown_of}
+use Rattle.split_cells.proofs.OneClassSteps.{one_class_inner}
 use Rattle.split_cells.proofs.CellLemmas.{split_idle}
 use Rattle.split_cells.proofs.Labelled.{few_classes, names_inner, rank_shown, IsColouring-shown, IsPartition-shown}
 use Rattle.split_cells.proofs.cells.Cells.split.Goals as goal
@@ -13,7 +15,11 @@ use Rattle.split_cells.proofs.cells.Cells.split.Goals as goal
 pub inner_step-inner-requires-clause-names : goal.inner_step-inner-requires-clause-names
 inner_step-inner-requires-clause-names c =
     let h = c.self.invariant.shown in
-    λ i d l. omega (arith, c.requires i d l, ap rank_of c.self.view_is, rank_shown h, few_classes h, h.numbers.inverse.outer_len)
+    λ i d l. omega (arith, c.requires.names i d l, ap rank_of c.self.view_is, rank_shown h, few_classes h, h.numbers.inverse.outer_len)
+
+pub make_step-split-requires-clause-one_class : goal.make_step-split-requires-clause-one_class
+make_step-split-requires-clause-one_class c =
+    one_class_inner c.self.inside.labels.outer.items c.inner_step-inner.result (subst (HasStep 1) (sym c.inner_step-inner.ensures.shown) c.requires.one_class)
 
 pub make_step-split-requires-clause-names : goal.make_step-split-requires-clause-names
 make_step-split-requires-clause-names c =
@@ -22,7 +28,7 @@ make_step-split-requires-clause-names c =
     let rank = c.self.inside.pairs.parting.rank in
     names_inner h step (subst (λ n. All (λ number. number < n) (numbers_of step)) h.numbers.inverse.outer_len c.inner_step-inner.ensures.names)
     (subst (λ (s : Step). NamesBelow rank s) (sym c.inner_step-inner.ensures.shown)
-    (subst (λ r. NamesBelow r c.args.step) (sym (ap rank_of c.self.view_is) ∙ rank_shown h) c.requires))
+    (subst (λ r. NamesBelow r c.args.step) (sym (ap rank_of c.self.view_is) ∙ rank_shown h) c.requires.names))
 
 pub returns-clause-parts : goal.returns-clause-parts
 returns-clause-parts c =

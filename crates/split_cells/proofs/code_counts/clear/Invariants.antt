@@ -1,5 +1,0 @@
-use Rattle.split_cells.proofs.SumCounts.{IsClearedTo}
-use Rattle.split_cells.proofs.code_counts.clear.Given as goal
-
-abbrev pub invariant-loop-z : goal.invariant-loop-z
-invariant-loop-z l = IsClearedTo l.left l.right l.z l.counts

@@ -9,6 +9,8 @@
 
 BreakOnError := false;
 OnBreak := Ignore;
+# (errors that are wanted are not printed)
+SilentNonInteractiveErrors := true;
 COUNTS := rec(passed := 0, failed := 0, skipped := 0);
 
 Fail := function(name, why)
@@ -72,8 +74,119 @@ Expect("check", function() return CohereCheck(CohereTrace(cube)).accepted; end, 
 Expect("refused trace", function() return CohereCheck("trace 1\npoints 1\nstage\n0\nD 0\nclosure\n0\nend\n"); end,
   rec(accepted := false, line := 5, word := "IdleStep"));
 Expect("closure of a closure", function() return CohereClosure(cube).matrix = cube.matrix; end, true);
-ExpectError("bad relation", function() CohereClosure("DQd"); end, "PadBits at 2");
-ExpectError("refused line", function() CohereQuotient(cube, [1, 2]); end, "refused NotClosed");
+# Errors count from 1, and have a hint.
+ExpectError("bad relation", function() CohereClosure("DQd"); end,
+  "CohereClosure( M ): relation: PadBits at 2: the last character");
+ExpectError("row of a matrix", function() CohereClosure("matrix 2\n0 1\n1\n"); end, "MatrixCount at 14 (row 2): ");
+ExpectError("name of a file", function() CohereClosure("examples/x.g6"); end, "StringFile(\"examples/x.g6\")");
+ExpectError("sparse6", function() CohereClosure(":An"); end, "sparse6");
+ExpectError("a list as a text", function() CohereClosure("[[0,1],[1,0]]"); end, "hand over the list itself");
+ExpectError("too many points", function() CohereClosure("~?CB"); end, "a graph of 259 points");
+ExpectError("no square", function() CohereClosure([[1, 2], [3]]); end, "row 2 is none of 2");
+ExpectError("bad product", function() CohereDirectProduct(cube, "DQd"); end, "second factor: PadBits at 2");
+ExpectError("refused line", function() CohereQuotient(cube, [1, 2]); end,
+  "CohereQuotient( c, [ 1, 2 ] ): refused NotClosed: ");
+ExpectError("refused array", function() CohereArray(cube, [1]); end, "CohereArray( c, [ 1 ] ): refused BadSet: ");
+ExpectError("no class", function() CohereArray(cube, [5]); end, "there is no class 5; classes are numbered from 1 to the rank, 4");
+ExpectError("class 0", function() CohereArray(cube, 0); end, "there is no class 0");
+ExpectError("no set", function() CohereArray(cube, []); end, "a list of them that is not empty");
+ExpectError("no point", function() CohereSubscheme(cube, 9, [1, 3]); end, "there is no point 9; points are numbered from 1 to 8");
+ExpectError("no partition", function() CohereFuse(cube, [[1], [2, 3]]); end, "each class from 1 to 4 once, and not so class 4");
+ExpectError("class 0 in a block", function() CohereClose(cube, [[0], [1, 2, 3]]); end, "there is no class 0");
+ExpectError("bad trace", function() CohereCheck("trace 1\npoints 1\n"); end, "line 3 Stage: ");
+
+# One class stands for the set of it.
+Expect("one class", function() return CohereArray(cube, 2); end, rec(b := [3, 2, 1], c := [1, 2, 3]));
+
+# Constants
+path := CohereClosure("DQc");
+Expect("constants, one by one", function()
+  local p;
+  p := CohereConstants(path);
+  return ForAll([1 .. 13], i -> ForAll([1 .. 13], j -> ForAll([1 .. 13], k -> CohereConstant(path, i, j, k) = p[i][j][k])));
+end, true);
+Expect("constants of a class", function() return CohereConstantsOf(cube, 3); end,
+  [[1, 3, 1], [2, 2, 2], [2, 4, 1], [3, 1, 1], [3, 3, 2], [4, 2, 1]]);
+Expect("listed constants", function()
+  return Set(CohereConstantsList(path)) = Set(Concatenation(List([1 .. 13],
+    k -> List(CohereConstantsOf(path, k), it -> [it[1], it[2], k, it[3]]))));
+end, true);
+high := CohereClosure(List([1 .. 40], x -> List([1 .. 40], y -> 40 * x + y)));
+Expect("a high rank", function() return [high.rank, Length(CohereConstantsList(high))]; end, [1600, 64000]);
+ExpectError("constants of a high rank", function() CohereConstants(high); end, "CohereConstantsList( c ) has those");
+
+# Colours and classes
+Expect("classes of a colour", function() return List([0 .. 3], colour -> CohereClassesOf(path, colour)); end,
+  [[1, 2, 3], [5, 7, 10, 12], [4, 6, 8, 9, 11, 13], []]);
+Expect("colour of a class", function() return List([1, 4, 5], k -> CohereColourOf(path, k)); end, [0, 2, 1]);
+Expect("graph6", function() return CohereGraph6(path, CohereClassesOf(path, 1)); end, "DQc");
+Expect("digraph6", function() return CohereDigraph6(CohereClosure("&BP_"), 2); end, "&BP_");
+
+# Sessions
+Expect("session", function()
+  local s, said;
+  s := CohereSession("Dhc");
+  said := [CohereFix(s, 1), CohereTests(s).homogeneous, CohereUndo(s), CohereTests(s).homogeneous, CohereRedo(s)];
+  return [said, s.rank, s.edits, s.matrix[1]];
+end, [[rec(points := 5, rank := 13), false, rec(points := 5, rank := 3), true, rec(points := 5, rank := 13)],
+      13, ["fix 0"], [1, 4, 5, 5, 4]]);
+Expect("edits", function()
+  local s;
+  s := CohereSession("Dhc");
+  CohereBoth(s, 1, 2, 9);
+  CohereJoin(s, 9, 1);
+  CohereUndo(s);
+  CohereSet(s, 3, 3, 7);
+  return [s.rank, s.edits, CohereRaw(s)[1], CohereRaw(s)[3][3]];
+end, [25, ["both 0 1 9", "set 2 2 7"], [0, 9, 2, 2, 1], 7]);
+Expect("products and mergings in a session", function()
+  local s;
+  s := CohereSession("A_");
+  CohereDirectProduct(s, "Dhc");
+  CohereUndo(s);
+  CohereWreathProduct(s, [[0, 1], [1, 0]]);
+  CohereFuse(s, [[1], [2, 3]]);
+  CohereAdopt(s);
+  return [s.points, s.rank, s.edits, CohereCheck(CohereTrace(s)).accepted];
+end, [4, 2, ["wreath product", "fuse 0 1 1", "adopt"], true]);
+Expect("traces of a session", function()
+  local s, stages;
+  stages := trace -> Number(SplitString(trace, "\n"), line -> line = "stage");
+  s := CohereSession("Dhc");
+  CohereFix(s, 1);
+  CohereFix(s, 2);
+  Assert(0, CohereCheck(CohereTrace(s, 2)).accepted and CohereCheck(CohereTrace(s)).accepted);
+  # (the last edit but one does more than refine)
+  return [stages(CohereTrace(s)), stages(CohereTrace(s, 2)), CohereJoin(s, 1, 2).rank > 0, CohereFix(s, 3).points,
+          stages(CohereTrace(s)), CohereCheck(CohereTrace(s)).accepted, CohereTrace(cube, 2){[1 .. 7]}];
+end, [3, 3, true, 5, 2, true, "trace 2"]);
+Expect("products in the trace of a session", function()
+  local s;
+  s := CohereSession("@");
+  CohereAdopt(s);
+  CohereDirectProduct(s, "Dhc");
+  CohereAdopt(s);
+  CohereDirectProduct(s, "A_");
+  CohereAdopt(s);
+  return [s.points, CohereCheck(CohereTrace(s)).accepted, CohereCheck(CohereTrace(s)).rank = s.rank];
+end, [10, true, true]);
+ExpectError("no undo", function() CohereUndo(CohereSession("Dhc")); end, "refused NothingToUndo: ");
+ExpectError("no point to fix", function() CohereFix(CohereSession("Dhc"), 0); end, "CohereFix( s, 0 ): there is no point 0");
+ExpectError("no session", function() CohereFix(cube, 1); end, "CohereSession( M ) gives it");
+ExpectError("no colour", function() CohereSet(CohereSession("Dhc"), 1, 1, -1); end, "-1 is no colour");
+ExpectError("absent colour", function() CohereJoin(CohereSession("Dhc"), 1, 9); end, "refused ColourAbsent: ");
+
+# Reading the file once more takes what stands in it.
+Expect("read again", function()
+  Read(Concatenation(COHERE_HERE, "cohere.g"));
+  return CohereClosure("Dhc").rank;
+end, 3);
+Expect("the program is looked for once", function()
+  local shell, asked;
+  asked := COHERE_FOUND.program;
+  CohereClosure("Dhc");
+  return [IsString(asked), IsExecutableFile(asked), EndsWith(asked, "bin/cohere")];
+end, [true, true, EndsWith(COHERE_FOUND.program, "bin/cohere")]);
 
 if LoadPackage("grape") = true then
   # Orbitals of the whole group of automorphisms are a configuration that refines the graph, so they refine
@@ -114,7 +227,9 @@ if LoadPackage("grape") = true then
     return [gamma.order, GlobalParameters(gamma)];
   end, [10, [[0, 0, 3], [1, 0, 2], [1, 2, 0]]]);
 else
-  Print("skipped, since GRAPE is not installed: orbitals\n");
+  COUNTS.skipped := 5;
+  Print("skipped, for want of GRAPE: orbitals, and the graph of a class\n");
+  ExpectError("graph without GRAPE", function() CohereGraph(cube, 2); end, "needs the package GRAPE, which is not installed");
 fi;
 
 Print("gap: ", COUNTS.passed, " passed, ", COUNTS.failed, " failed, ", COUNTS.skipped, " skipped\n");

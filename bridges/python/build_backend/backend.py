@@ -10,7 +10,7 @@ import zipfile
 from pathlib import Path
 
 TOP = Path(__file__).resolve().parent.parent
-NAME = "cohere"
+NAME = "gannetdivan"
 VERSION = re.search(r'^__version__ = "(.+)"$', (TOP / NAME / "__init__.py").read_text("utf-8"), re.MULTILINE)[1]
 INFO = f"{NAME}-{VERSION}.dist-info"
 

@@ -6,9 +6,9 @@
 import sys
 from pathlib import Path
 
-import cohere
+import gannetdivan
 
-session = cohere.Session(Path(sys.argv[1]))
+session = gannetdivan.Session(Path(sys.argv[1]))
 closure = session.closure()
 print("rank", closure.rank)
 while len(closure.fibres) < closure.points:
@@ -16,4 +16,4 @@ while len(closure.fibres) < closure.points:
     session.fix(point)
     closure = session.closure()
     print("fix", point, "rank", closure.rank)
-print("certificate", "accepted" if cohere.check(session.trace()) else "refused")
+print("certificate", "accepted" if gannetdivan.check(session.trace()) else "refused")

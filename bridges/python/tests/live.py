@@ -4,8 +4,8 @@ import functools
 import os
 from pathlib import Path
 
-from cohere import ProgramMissing
-from cohere.program import find
+from gannetdivan import ProgramMissing
+from gannetdivan.program import find
 
 TOP = Path(__file__).resolve().parents[3]
 EXAMPLES = TOP / "examples"

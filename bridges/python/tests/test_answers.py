@@ -1,8 +1,10 @@
 """The readers of answers, on texts that are written out here."""
 
+import sys
 import unittest
+from unittest import mock
 
-from cohere import (
+from gannetdivan import (
     ClassRow,
     Disconnected,
     Edited,
@@ -16,7 +18,7 @@ from cohere import (
     UnreadableAnswer,
     Verdict,
 )
-from cohere.answers import read_answers, read_verdict
+from gannetdivan.answers import read_answers, read_verdict
 
 COMPLETE_4 = [[0, 1, 1, 1], [1, 0, 1, 1], [1, 1, 0, 1], [1, 1, 1, 0]]
 
@@ -84,8 +86,31 @@ class Answers(unittest.TestCase):
         text = "constants 2 entries 4\n0 0 0 1\n1 1 0 1\n0 1 1 1\n1 0 1 1\n"
         (constants,) = read_answers(["constants"], text)
         self.assertEqual([constants(1, 1, 0), constants(1, 1, 1), constants.rank], [1, 0, 2])
+        self.assertEqual(list(constants), [(0, 0, 0, 1), (1, 1, 0, 1), (0, 1, 1, 1), (1, 0, 1, 1)])
+        self.assertEqual([list(it) for it in (constants.i, constants.k)], [[0, 1, 0, 1], [0, 0, 1, 1]])
+        self.assertEqual((len(constants), constants.entries[1, 0, 1]), (4, 1))
         with self.assertRaises(IndexError):
             constants(0, 0, 2)
+
+    def test_constants_in_pieces_and_between_other_answers(self):
+        rows = [(i, j, k, 1 + (i * j) % 3) for k in range(9) for i in range(9) for j in range(9)]
+        table = "constants 9 entries 729\n" + "".join("%d %d %d %d\n" % it for it in rows)
+        tests = "tests homogeneous yes symmetric no commutative yes thin yes primitive no\n"
+        for piece in (8, 100, 1 << 22):
+            with mock.patch("gannetdivan.answers._PIECE", piece):
+                _, constants, _ = read_answers(["tests", "constants", "tests"], tests + table + tests)
+            self.assertEqual(list(constants), rows)
+            self.assertEqual([constants(*it[:3]) for it in rows], [it[3] for it in rows])
+
+    def test_constants_without_numpy(self):
+        table = "constants 1 entries 1\n0 0 0 1\n"
+        with mock.patch.dict(sys.modules, {"numpy": None}):
+            (constants,) = read_answers(["constants"], table)
+        self.assertEqual((list(constants), type(constants.i).__name__), ([(0, 0, 0, 1)], "array"))
+        one = "constants 1 entries 1\n0 0 0"
+        for bad in ("constants 1 entries 2\n0 0 0 1\n", f"{one}\n", f"{one} 1", f"{one} 1 1\n"):
+            with self.assertRaises(UnreadableAnswer):
+                read_answers(["constants"], bad)
 
     def test_no_answer_is_read_from_a_part_of_it(self):
         for line, text, answer in ANSWERS:

@@ -10,8 +10,8 @@ import unittest
 from pathlib import Path
 from unittest import mock
 
-import cohere
-from cohere.each import each, write_each
+import gannetdivan
+from gannetdivan.each import each, write_each
 
 from . import plain
 from .live import EXAMPLES, live
@@ -39,7 +39,7 @@ class Order(unittest.TestCase):
                     out, err = io.StringIO(), io.StringIO()
                     self.assertEqual(write_each("s", lines, out, err, jobs), 1)
                     self.assertEqual(out.getvalue(), wanted)
-                    self.assertEqual(err.getvalue(), "cohere each: line 2: BadByte at 1\n")
+                    self.assertRegex(err.getvalue(), r"^gannetdivan each: line 2: BadByte at 1: .+\n$")
 
     def test_a_progress_bar_on_a_terminal(self):
         with tempfile.TemporaryDirectory() as folder:
@@ -59,13 +59,13 @@ class Many(unittest.TestCase):
         return str(path)
 
     def command(self, *words, **streams):
-        command = [sys.executable, "-m", "cohere", "each", *words]
+        command = [sys.executable, "-m", "gannetdivan", "each", *words]
         return subprocess.run(command, capture_output=True, text=True, check=False, **streams)
 
     def test_command(self):
         ended = self.command(self.script("array 1"), input=f"Dhc\nDQd\nGr`HOk\n")
         self.assertEqual(ended.stdout, "# 1 Dhc\narray {2,1;1,1}\n# 3 Gr`HOk\narray {3,2,1;1,2,3}\n")
-        self.assertEqual(ended.stderr, "cohere each: line 2: PadBits at 2\n")
+        self.assertRegex(ended.stderr, r"^gannetdivan each: line 2: PadBits at 2: .+\n$")
         self.assertEqual(ended.returncode, 1)
 
     def test_a_file_of_graphs(self):

@@ -7,9 +7,9 @@ import unittest
 from pathlib import Path
 from unittest import mock
 
-import cohere
-from cohere.errors import error_of
-from cohere.program import answers, find
+import gannetdivan
+from gannetdivan.errors import error_of
+from gannetdivan.program import answers, find
 
 
 def stand_in(folder, body, name="cohere"):
@@ -23,16 +23,16 @@ def stand_in(folder, body, name="cohere"):
 class Endings(unittest.TestCase):
     def test_errors(self):
         for status, said, kind, kept in [
-            (3, "cohere: r: PadBits at 2\n", cohere.BadRelation, {"word": "PadBits", "place": 2}),
-            (3, "cohere: a: b: NoLine at 0\n", cohere.BadRelation, {"word": "NoLine", "place": 0}),
-            (3, "cohere: r: TooLong\n", cohere.BadRelation, {"word": "TooLong", "place": None}),
-            (3, "cohere: script: line 2 BadLimit\n", cohere.BadScript, {"word": "BadLimit", "line": 2}),
-            (3, "cohere: script: TooLong\n", cohere.BadScript, {"word": "TooLong", "line": None}),
-            (3, "cohere: t: line 10 End\n", cohere.BadTrace, {"word": "End", "line": 10}),
-            (4, "cohere: cannot read S\n", cohere.ProgramFailed, {"status": 4}),
-            (6, "cohere: out of memory\n", cohere.OutOfMemory, {"status": 6}),
-            (70, "cohere: the program is not built\n", cohere.ProgramMissing, {}),
-            (-9, "", cohere.ProgramFailed, {"status": -9}),
+            (3, "cohere: r: PadBits at 2\n", gannetdivan.BadRelation, {"word": "PadBits", "place": 2}),
+            (3, "cohere: a: b: NoLine at 0\n", gannetdivan.BadRelation, {"word": "NoLine", "place": 0}),
+            (3, "cohere: r: TooLong\n", gannetdivan.BadRelation, {"word": "TooLong", "place": None}),
+            (3, "cohere: script: line 2 BadLimit\n", gannetdivan.BadScript, {"word": "BadLimit", "line": 2}),
+            (3, "cohere: script: TooLong\n", gannetdivan.BadScript, {"word": "TooLong", "line": None}),
+            (3, "cohere: t: line 10 End\n", gannetdivan.BadTrace, {"word": "End", "line": 10}),
+            (4, "cohere: cannot read S\n", gannetdivan.ProgramFailed, {"status": 4}),
+            (6, "cohere: out of memory\n", gannetdivan.OutOfMemory, {"status": 6}),
+            (70, "cohere: the program is not built\n", gannetdivan.ProgramMissing, {}),
+            (-9, "", gannetdivan.ProgramFailed, {"status": -9}),
         ]:
             with self.subTest(said=said, status=status):
                 fault = error_of(status, said)
@@ -40,9 +40,16 @@ class Endings(unittest.TestCase):
                 self.assertEqual({name: getattr(fault, name) for name in kept}, kept)
 
     def test_messages(self):
-        self.assertEqual(str(error_of(3, "cohere: r: PadBits at 2\n")), "r: PadBits at 2")
-        self.assertEqual(str(error_of(3, "cohere: script: line 2 BadLimit\n")), "script: line 2 BadLimit")
-        self.assertEqual(str(cohere.Refused("NotClosed", "quotient 0 1")), "quotient 0 1: refused NotClosed")
+        for fault, front in [
+            (error_of(3, "cohere: r: PadBits at 2\n"), "r: PadBits at 2"),
+            (error_of(3, "cohere: script: line 2 BadLimit\n"), "script: line 2 BadLimit"),
+            (gannetdivan.Refused("NotClosed", "quotient 0 1"), "quotient 0 1: refused NotClosed"),
+        ]:
+            self.assertTrue(fault.hint)
+            self.assertEqual(str(fault), f"{front}: {fault.hint}")
+        # (a word that a newer program has)
+        self.assertEqual(str(error_of(3, "cohere: r: NewWord at 2\n")), "r: NewWord at 2")
+        self.assertEqual(str(gannetdivan.Refused("NewWord", "new")), "new: refused NewWord")
 
 
 class Finding(unittest.TestCase):
@@ -57,8 +64,8 @@ class Finding(unittest.TestCase):
 
     def test_a_missing_program_says_how_to_build_it(self):
         with mock.patch.dict(os.environ, {"COHERE": "/no/such/program"}):
-            with self.assertRaisesRegex(cohere.ProgramMissing, "bin/cohere"):
-                cohere.closure("A_")
+            with self.assertRaisesRegex(gannetdivan.ProgramMissing, "bin/cohere"):
+                gannetdivan.closure("A_")
 
     def test_a_checkout_that_is_not_built(self):
         with tempfile.TemporaryDirectory() as folder:
@@ -66,8 +73,8 @@ class Finding(unittest.TestCase):
             Path(folder, "bin").mkdir()
             program = stand_in(Path(folder, "bin"), "echo 'cohere: the program is not built' >&2; exit 70")
             with mock.patch.dict(os.environ, {"COHERE": program}):
-                with self.assertRaisesRegex(cohere.ProgramMissing, "not built.*Build it"):
-                    cohere.closure("A_")
+                with self.assertRaisesRegex(gannetdivan.ProgramMissing, "not built.*Build it"):
+                    gannetdivan.closure("A_")
 
     def test_a_checkout_that_is_built_gives_the_program_itself(self):
         with tempfile.TemporaryDirectory() as folder:
@@ -87,8 +94,17 @@ class Asking(unittest.TestCase):
             with mock.patch.dict(os.environ, {"COHERE": stand_in(folder, body)}):
                 said = answers("r\n", ["show", "tests"], {"product": "p\n", "status": "0"})
                 self.assertEqual(said, "r\nshow\ntests\np\n")
-                with self.assertRaisesRegex(cohere.BadRelation, "^relation: BadByte at 3$"):
+                with self.assertRaisesRegex(gannetdivan.BadRelation, "^relation: BadByte at 3: "):
                     answers("r\n", ["show"], {"product": "", "status": "3"})
+                body = body.replace("-: BadByte at 3", "product: BadByte at 2")
+                stand_in(folder, body)
+                with self.assertRaisesRegex(gannetdivan.BadRelation, "^my.g6: BadByte at 2: .*name of a file"):
+                    answers("r\n", ["show"], {"product": "a/b.g6", "status": "3"}, {"product": "my.g6"})
+                body = body.replace("product: BadByte at 2", "script: line 2 UnknownWord")
+                stand_in(folder, body)
+                said = "^script: line 2 UnknownWord, 'shwo': .*'show' does"
+                with self.assertRaisesRegex(gannetdivan.BadScript, said):
+                    answers("r\n", ["tests", "shwo"], {"product": "", "status": "3"})
 
 
 if __name__ == "__main__":

@@ -4,7 +4,7 @@ import tempfile
 import unittest
 from pathlib import Path
 
-from cohere.relations import matrix_text, relation_text
+from gannetdivan.relations import matrix_text, relation_text
 
 try:
     import networkx

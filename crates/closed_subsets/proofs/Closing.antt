@@ -5,10 +5,9 @@ use Rattle.pair_colours.specs.Colouring.{PairColouring, colour_at, triangles}
 use Rattle.pair_colours.specs.ClosedSet.{IsClosedSet}
 use Rattle.pair_colours.specs.Naming.{rank_of}
 use Rattle.pair_colours.specs.IntersectionNumber.{pair_of_class}
-use Rattle.pair_colours.proofs.Counts.{triangle_point}
+use Rattle.pair_colours.proofs.Counts.{triangle_point, counted}
 use Rattle.struct_consts.specs.ClassData.{IsConfiguration}
 use Rattle.struct_consts.proofs.LawProofs.{colours_are_below_rank, classes_have_pairs, triangles_are_constants}
-use Rattle.struct_consts.proofs.Sums.{counted}
 use Rattle.closed_subsets.specs.Closedness.{IsClosedByConstants, ClosedByConstants}
 
 module _ (K : PairColouring) (g : IsConfiguration K) (set : ℕ → Bool) where

@@ -40,7 +40,7 @@ module _ (K : PairColouring) (g : IsConfiguration K) (mask : ℕ) where
   -- a closed set has a colour
   closed_entry : rank_of K ≤ 16 → IsClosedSet K (is_in (members_of (rank_of K) mask)) → IsEntry (members_of (rank_of K) mask)
   closed_entry small s =
-      let zero_in : 0 < K.size = omega (arith, g.fits.colouring.has_points) in
+      let zero_in : 0 < K.size = omega (arith, g.colouring.has_points) in
       let l = (colours_are_below_rank K g (colour_at K 0 0)).1 (record { x = 0; y = 0; row = zero_in; column = zero_in; is = refl }) in
       IsEntry-members (rank_of K) mask (colour_at K 0 0) small l (sym (is_in-members_of (rank_of K) mask (colour_at K 0 0) l) ∙ s.reflexive 0 zero_in)
 

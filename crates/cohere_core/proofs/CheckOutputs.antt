@@ -1,12 +1,10 @@
--- The output of a check of a trace, and its status.
-use Rattle.std.proofs.Common.{◌≡◌, ◌≤◌, ℕ, List, length, Option, Some, None, ⊎_elim, refl, sym, subst, ◌∙◌, inl}
-use Rattle.std.specs.Prelude.{IfSome}
+-- The output of a check of a trace.
+use Rattle.std.proofs.Common.{◌≡◌, ◌≤◌, ℕ, List, length, Option, Some, None, ⊎_elim, refl, sym, subst, ◌∙◌, inl, inr}
+use Rattle.std.specs.Prelude.{◌⊎◌, IfSome}
 use Rattle.std.specs.List.{AllByRecursion}
 use Rattle.std.specs.Io.KnownBytes.{Appends}
-use Rattle.std.proofs.KnownBytes.{Keeps-refl, Appends-nil}
 use Rattle.std.proofs.lemmas.Option.{same_Some}
 use Rattle.scheme_io.specs.Files.{Files}
-use Rattle.scheme_io.specs.Bytes.{AppendsPart}
 use Rattle.pair_colours.specs.Naming.{rank_of}
 use Rattle.trace_text.specs.declared.check_words.CheckWord.{CheckWord}
 use Rattle.trace_text.specs.declared.stage_list.Claim.{Claim}
@@ -16,21 +14,19 @@ use Rattle.trace_text.specs.ClaimTexts.{IsTraceText}
 use Rattle.trace_text.proofs.LawProofs.{verdict_exists, accepted_has_none, reading_is_unique}
 use Rattle.trace_check.specs.declared.verdicts.Verdict.{Verdict}
 use Rattle.trace_check.specs.declared.verdicts.Verdict.TheVariants.{Accepted, Refused}
-use Rattle.trace_check.specs.Verdict.{IsAccepted, IsVerdict}
-use Rattle.report_text.specs.Verdicts.{accepted_text_of, bad_line_text_of, verdict_text_of}
-use Rattle.cohere_inputs.specs.declared.faults.FileFault.TheVariants.{Missing, TooLong, Relation, Script, Trace}
-use Rattle.cohere_inputs.specs.declared.faults.Unread.{Unread}
-use Rattle.cohere_inputs.specs.declared.faults.Unread.TheVariants.{Bad, StoreFailed, NoMemory}
+use Rattle.trace_check.specs.Verdict.{IsVerdict}
+use Rattle.report_text.specs.Verdicts.{verdict_text_of}
 use Rattle.cohere_inputs.specs.Task.{Check}
 use Rattle.cohere_inputs.specs.Needs.{Need, named_files}
 use Rattle.cohere_inputs.specs.Bad.{IsGood, IsTraceFile, NoneIsBad}
-use Rattle.cohere_inputs.specs.Unread.{Halts}
-use Rattle.cohere_inputs.proofs.LawProofs.{none_is_first}
-use Rattle.cohere_core.specs.declared.status.Status.TheVariants as statuses
-use Rattle.cohere_core.specs.Halt.{halt_status}
-use Rattle.cohere_core.specs.Run.{IsStatusWithoutFaults, OutputAfter}
-use Rattle.cohere_core.specs.CheckForm.{AddsAnswerFront, AddsCheckFrontOrNothing, IsAnswerTo, accepted_line}
-use Rattle.cohere_core.proofs.Halted.{halted_status}
+use Rattle.cohere_core.specs.declared.answering.SessionFault.{SessionFault}
+use Rattle.cohere_core.specs.declared.status.Status.TheVariants.{Done, CheckedNo}
+use Rattle.cohere_core.specs.Added.{AddsUntil}
+use Rattle.cohere_core.specs.CheckForm.{TellsVerdict}
+use Rattle.cohere_core.specs.Forms.{IsSomeOutputOf}
+use Rattle.cohere_core.proofs.Endings.{HasFront, HasOutputs, HasWhole}
+use Rattle.cohere_core.proofs.Fronts.{until_other}
+use Rattle.cohere_core.proofs.Judgements.{accepted_is_done, line_is_output, refused_is_no}
 
 -- ---- the file
 
@@ -53,84 +49,63 @@ same_claim files trace claim other a b =
 
 -- ---- the line of a claim
 
--- a claim with a stage has a line
-has_line : (claim : Claim) → 1 ≤ length claim.chain → (t : List ℕ) × IsAnswerTo claim t
-has_line claim some = ⊎_elim
-    (λ accepts. (accepted_line claim, (Accepted claim.closure.size (rank_of claim.closure) (step_count claim.chain), record { accepts = accepts; size = refl; classes = refl; counted = refl }, refl)))
-    (λ (bad : (line : ℕ) × (word : CheckWord) × IsFirstBadLine claim line word). (bad_line_text_of bad.0 bad.1, (Refused bad.0 bad.1, bad.2, refl)))
+-- a claim with a stage is accepted, or has a first bad line
+pub verdict_of : (claim : Claim) → 1 ≤ length claim.chain → (verdict : Verdict) × IsVerdict claim verdict
+verdict_of claim some = ⊎_elim
+    (λ accepts. (Accepted claim.closure.size (rank_of claim.closure) (step_count claim.chain), record { accepts = accepts; size = refl; classes = refl; counted = refl }))
+    (λ (bad : (line : ℕ) × (word : CheckWord) × IsFirstBadLine claim line word). (Refused bad.0 bad.1, bad.2))
     (verdict_exists claim some)
 
--- nothing of it was written
-pub nothing_of_line : (claim : Claim) (w : Option (List ℕ)) → 1 ≤ length claim.chain → AddsAnswerFront claim w w
-nothing_of_line claim w some = let a = has_line claim some in record { line = a.0; answer = a.1; part = 0; added = Appends-nil w }
+accepts_or_not : (claim : Claim) (verdict : Verdict) → IsVerdict claim verdict → Accepts claim ⊎ (Accepts claim → ⊥)
+accepts_or_not claim (Accepted points rank steps) is = inl is.accepts
+accepts_or_not claim (Refused line word) is = inr (λ yes. accepted_has_none claim line word yes is)
 
--- a part of it was written
-pub part_of_line : (claim : Claim) (verdict : Verdict) (items view : List ℕ) (old new : Option (List ℕ)) → IsVerdict claim verdict → items ≡ verdict_text_of verdict → view ≡ items
-    → AppendsPart old new view → AddsAnswerFront claim old new
-part_of_line claim verdict items view old new is text value part =
-    record { line = view; answer = (verdict, is, value ∙ text); part = part.0; added = part.2 }
+-- so it has a line
+pub has_line : (claim : Claim) → 1 ≤ length claim.chain → (t : List ℕ) × TellsVerdict claim t
+has_line claim some = let v = verdict_of claim some in (verdict_text_of v.0, (v.0, v.1, refl))
+
+-- which is an output of its file
+line_is_some_output : (files : Files) (trace : List ℕ) (claim : Claim) (t : List ℕ) → IsTraceFile files trace claim → TellsVerdict claim t → IsSomeOutputOf files (Check trace) t
+line_is_some_output files trace claim t file tells =
+    line_is_output (IsTraceFile files trace) Accepts TellsVerdict claim t file (accepts_or_not claim tells.0 tells.1) tells
 
 -- ---- the output
 
-nothing_yet : (files : Files) (trace : List ℕ) (w : Option (List ℕ)) → AddsCheckFrontOrNothing files trace w w
-nothing_yet files trace w = record {
-  front = λ good. let c = has_claim files trace good in (c.0, c.1, nothing_of_line c.0 w c.1.reads.lines.fits.has_stage);
-  nothing = λ need fault bad. Keeps-refl w;
-}
+pub check_outputs : (trace : List ℕ) → HasOutputs (Check trace)
+check_outputs trace given none =
+    let c = has_claim given trace none in
+    let t = has_line c.0 c.1.reads.lines.fits.has_stage in
+    (t.0, line_is_some_output given trace c.0 t.0 c.1 t.1)
 
-pub halted_output : (files : Option Files) (trace : List ℕ) (why : Unread) (w : Option (List ℕ)) → OutputAfter (Check trace) (halt_status why) files w w
-halted_output None trace why w = tt
-halted_output (Some files) trace (Bad Missing) w = Keeps-refl w
-halted_output (Some files) trace (Bad TooLong) w = Keeps-refl w
-halted_output (Some files) trace (Bad (Relation what at)) w = Keeps-refl w
-halted_output (Some files) trace (Bad (Script at what)) w = Keeps-refl w
-halted_output (Some files) trace (Bad (Trace at what)) w = Keeps-refl w
-halted_output (Some files) trace StoreFailed w = Keeps-refl w
-halted_output (Some files) trace NoMemory w = nothing_yet files trace w
+pub check_accepted : (files : Option Files) (trace : List ℕ) (claim : Claim) (verdict : Verdict) (points rank steps : ℕ) (old new : Option (List ℕ))
+    → IfSome files (λ files. IsTraceFile files trace claim) → verdict ≡ Accepted points rank steps → IsVerdict claim verdict → Appends old new (verdict_text_of verdict)
+    → IfSome files (λ given. HasWhole given (Check trace) Done old new)
+check_accepted None trace claim verdict points rank steps old new file e is added = tt
+check_accepted (Some files) trace claim verdict points rank steps old new file e is added =
+    let yes = subst (λ (v : Verdict). IsVerdict claim v) e is in
+    record {
+      good = good_trace files trace claim file;
+      added = (verdict_text_of verdict, (claim, file, yes.accepts, (verdict, is, refl)), added);
+      is = accepted_is_done (IsTraceFile files trace) Accepts claim (λ other read. same_claim files trace claim other file read) yes.accepts;
+    }
 
-pub accepted_output : (files : Option Files) (trace : List ℕ) (claim : Claim) (points rank steps : ℕ) (old new : Option (List ℕ)) → IfSome files (λ files. IsTraceFile files trace claim)
-    → IsAccepted claim points rank steps → Appends old new (accepted_text_of points rank steps) → OutputAfter (Check trace) statuses.Done files old new
-accepted_output None trace claim points rank steps old new file is added = tt
-accepted_output (Some files) trace claim points rank steps old new file is added =
-    let same : accepted_text_of points rank steps ≡ accepted_line claim = λ i. accepted_text_of (is.size i) (is.classes i) (is.counted i) in
-    record { claim = claim; file = file; accepts = is.accepts; added = subst (Appends old new) same added }
+pub check_refused : (files : Option Files) (trace : List ℕ) (claim : Claim) (verdict : Verdict) (line : ℕ) (word : CheckWord) (old new : Option (List ℕ))
+    → IfSome files (λ files. IsTraceFile files trace claim) → verdict ≡ Refused line word → IsVerdict claim verdict → Appends old new (verdict_text_of verdict)
+    → IfSome files (λ given. HasWhole given (Check trace) CheckedNo old new)
+check_refused None trace claim verdict line word old new file e is added = tt
+check_refused (Some files) trace claim verdict line word old new file e is added =
+    let first = subst (λ (v : Verdict). IsVerdict claim v) e is in
+    let no : Accepts claim → ⊥ = λ yes. accepted_has_none claim line word yes first in
+    record {
+      good = good_trace files trace claim file;
+      added = (verdict_text_of verdict, (claim, file, no, (verdict, is, refl)), added);
+      is = refused_is_no (IsTraceFile files trace) Accepts claim (λ other read. same_claim files trace claim other file read) no;
+    }
 
-pub refused_output : (files : Option Files) (trace : List ℕ) (claim : Claim) (line : ℕ) (word : CheckWord) (old new : Option (List ℕ)) → IfSome files (λ files. IsTraceFile files trace claim)
-    → IsFirstBadLine claim line word → Appends old new (bad_line_text_of line word) → OutputAfter (Check trace) statuses.CheckedNo files old new
-refused_output None trace claim line word old new file first added = tt
-refused_output (Some files) trace claim line word old new file first added =
-    record { claim = claim; file = file; refused = λ accepts. accepted_has_none claim line word accepts first; line = line; word = word; first = first; added = added }
-
-pub front_output : (files : Option Files) (trace : List ℕ) (claim : Claim) (old new : Option (List ℕ)) → IfSome files (λ files. IsTraceFile files trace claim)
-    → AddsAnswerFront claim old new → OutputAfter (Check trace) statuses.NoMemory files old new
-front_output None trace claim old new file front = tt
-front_output (Some files) trace claim old new file front = record {
-  front = λ good. (claim, file, front);
-  nothing = λ need fault bad. absurd (none_is_first files (Check trace) need fault (good_trace files trace claim file) bad);
-}
-
--- ---- the status where no count of faults rose
-
-pub halted_completely : (files : Option Files) (trace name : List ℕ) (why : Unread) (rose : Type 0) → Halts files (Check trace) name why rose
-    → (rose → ⊥) → IsStatusWithoutFaults (Check trace) (halt_status why) files
-halted_completely None trace name why rose h calm = tt
-halted_completely (Some files) trace name why rose h calm = halted_status files (Check trace) name why rose _ h calm
-
-pub accepted_completely : (files : Option Files) (trace : List ℕ) (claim : Claim) → IfSome files (λ files. IsTraceFile files trace claim)
-    → Accepts claim → IsStatusWithoutFaults (Check trace) statuses.Done files
-accepted_completely None trace claim file accepts = tt
-accepted_completely (Some files) trace claim file accepts = record {
-  good = λ _. inl (record { accepted = λ other read yes. refl; refused = λ other read no. absurd (no (subst Accepts (same_claim files trace claim other file read) accepts)) });
-  bad = λ need fault bad. absurd (none_is_first files (Check trace) need fault (good_trace files trace claim file) bad);
-}
-
-pub refused_completely : (files : Option Files) (trace : List ℕ) (claim : Claim) (line : ℕ) (word : CheckWord) → IfSome files (λ files. IsTraceFile files trace claim)
-    → IsFirstBadLine claim line word → IsStatusWithoutFaults (Check trace) statuses.CheckedNo files
-refused_completely None trace claim line word file first = tt
-refused_completely (Some files) trace claim line word file first = record {
-  good = λ _. inl (record {
-    accepted = λ other read yes. absurd (accepted_has_none claim line word (subst Accepts (same_claim files trace other claim read file) yes) first);
-    refused = λ other read no. refl;
-  });
-  bad = λ need fault bad. absurd (none_is_first files (Check trace) need fault (good_trace files trace claim file) bad);
+pub check_front : (files : Option Files) (trace : List ℕ) (claim : Claim) (fault : SessionFault) (old new : Option (List ℕ)) → IfSome files (λ files. IsTraceFile files trace claim)
+    → AddsUntil fault (TellsVerdict claim) old new → IfSome files (λ given. HasFront given (Check trace) fault old new)
+check_front None trace claim fault old new file front = tt
+check_front (Some files) trace claim fault old new file front = record {
+  good = good_trace files trace claim file;
+  added = until_other fault (TellsVerdict claim) (IsSomeOutputOf files (Check trace)) old new (λ t tells. line_is_some_output files trace claim t file tells) front;
 }

@@ -17,7 +17,8 @@ use Rattle.visitors.specs.declared.visitor.TheConstants.{MOST_SET_RANK}
 use Rattle.report_text.specs.EditLines.{refused_text_of}
 use Rattle.report_text.specs.Sets.{sets_text_of}
 use Rattle.report_text.specs.declared.sets.SetHead.TheVariants.{Closed}
-use Rattle.cohere_core.specs.ClosedSubsets.{RefusedUnless, ListsClosed}
+use Rattle.report_text.specs.Refusals.{RefusedUnless}
+use Rattle.cohere_core.specs.ClosedSubsets.{ListsClosed}
 
 -- ---- refusals
 

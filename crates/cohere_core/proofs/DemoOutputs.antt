@@ -1,8 +1,8 @@
 -- The output of a demonstration.
-use Rattle.std.proofs.Common.{◌≡◌, ◌+◌, ℕ, List, [], ◌++◌, length, take, Option, refl, sym, ap, subst, ◌∙◌, arith, append_assoc}
+use Rattle.std.proofs.Common.{◌≡◌, ◌+◌, ℕ, List, [], ◌++◌, length, take, Option, refl, sym, ap, subst, ◌∙◌, arith, append_assoc, length-append}
 use Rattle.std.specs.Prelude.{◌≢◌}
 use Rattle.std.specs.Io.KnownBytes.{Appends}
-use Rattle.std.proofs.KnownBytes.{Appends-nil, Appends-trans}
+use Rattle.std.proofs.KnownBytes.{Appends-trans}
 use Rattle.std.proofs.lemmas.List.{take-append-le, length-map}
 use Rattle.std.proofs.lemmas.List.Elements.{All-nil, All-from_recursion}
 use Rattle.std.proofs.Math.Seq.{take-append-add, take-append_seam}
@@ -18,9 +18,12 @@ use Rattle.scheme_demo.specs.Demonstration.{demo_size, demo_relation_of, demo_li
 use Rattle.scheme_demo.proofs.LawProofs.{demo_relation_is_raw}
 use Rattle.cohere_core.specs.declared.answering.SessionFault.{SessionFault}
 use Rattle.cohere_core.specs.Answer.{Answered, KeepLimits, OfConfiguration, Runs, Stopped}
-use Rattle.cohere_core.specs.DemoForm.{AddsDemo, AddsDemoFront, DemoOutput, TellsChecked, checked_line, demo_line}
+use Rattle.cohere_core.specs.declared.answering.SessionFault.TheVariants.{SinkFailed, NoMemory}
+use Rattle.cohere_core.specs.Added.{AddsText, AddsUntil}
+use Rattle.cohere_core.specs.DemoForm.{DemoOutput, TellsChecked, checked_line, demo_line}
 use Rattle.cohere_core.specs.Law.{DemoExists, DemoIsUnique, HasNoTrace}
 use Rattle.cohere_core.specs.Products.{AreProducts}
+use Rattle.cohere_core.proofs.Fronts.{nothing_until}
 use Rattle.cohere_core.proofs.OneOutput.{one_text, run_is_unique}
 use Rattle.cohere_core.proofs.Runs.{front_of_run, has_configuration, run_exists, runs_keep}
 
@@ -109,31 +112,44 @@ is_begun number relation start a b view made starts is added =
     record { starts = subst (λ (C : PairColouring). Starts C start) made starts; added = subst (Appends a b) is added }
 
 -- before the first byte
-pub nothing_of_demo : (number : ℕ) (a : Option (List ℕ)) → AddsDemoFront number a a
-nothing_of_demo number a = let t = demo_exists number in (t.0, 0, t.1, Appends-nil a)
+pub nothing_of_demo : (number : ℕ) (a : Option (List ℕ)) → AddsUntil NoMemory (DemoOutput number) a a
+nothing_of_demo number a = let t = demo_exists number in nothing_until (DemoOutput number) t.0 a t.1
 
 -- in the first line
-pub part_of_head : (number : ℕ) (a b : Option (List ℕ)) (view : List ℕ) → view ≡ demo_line number (demo_size number) → AppendsPart a b view → AddsDemoFront number a b
+pub part_of_head : (number : ℕ) (a b : Option (List ℕ)) (view : List ℕ) → view ≡ demo_line number (demo_size number) → AppendsPart a b view
+    → AddsUntil SinkFailed (DemoOutput number) a b
 part_of_head number a b view is part =
     let t = demo_exists number in
     let first = demo_line number (demo_size number) in
     let e : take part.0 view ≡ take part.0 t.0 =
     ap (take part.0) is ∙ sym (take-append-le part.0 first (t.1.answers ++ t.1.last) (omega (arith, part.1, ap length is)))
     ∙ ap (take part.0) (sym (append_assoc first t.1.answers t.1.last) ∙ sym t.1.text) in
-    (t.0, part.0, t.1, subst (Appends a b) e part.2)
+    record {
+      text = t.0;
+      count = part.0;
+      is = t.1;
+      proper = λ _. omega (arith, part.1, ap length is, ap length t.1.text, length-append first (t.1.answers ++ t.1.last));
+      added = subst (Appends a b) e part.2;
+    }
 
 -- in the answers
 pub part_of_answers : (number : ℕ) (fault : SessionFault) (lines : List Line) (start bench : History) (a b c : Option (List ℕ)) → lines ≡ demo_lines_of → IsBegun number start a b
-    → Stopped fault start [] lines bench b c → AddsDemoFront number a c
+    → Stopped fault start [] lines bench b c → AddsUntil fault (DemoOutput number) a c
 part_of_answers number fault lines start bench a b c are begun stopped =
     let there = subst (λ (l : List Line). Stopped fault start [] l bench b c) are stopped in
     let front = front_of_run fault [] demo_lines_of start bench b c (start_history number start begun.starts) demo_products there in
     let output = run_output number start front.end front.answers begun.starts front.runs in
     let first = demo_line number (demo_size number) in
     let e : first ++ take front.part front.answers ≡ take (length first + front.part) (first ++ front.answers ++ output.0) =
-    ap (λ (l : List ℕ). first ++ l) (sym (take-append-le front.part front.answers output.0 front.within))
+    ap (λ (l : List ℕ). first ++ l) (sym (take-append-le front.part front.answers output.0 (omega (arith, front.proper))))
     ∙ sym (take-append-add first (front.answers ++ output.0) front.part) ∙ ap (take (length first + front.part)) (sym (append_assoc first front.answers output.0)) in
-    (first ++ front.answers ++ output.0, length first + front.part, output.1, subst (Appends a c) e (Appends-trans a b c _ _ begun.added front.added))
+    record {
+      text = first ++ front.answers ++ output.0;
+      count = length first + front.part;
+      is = output.1;
+      proper = λ _. omega (arith, front.proper, length-append (first ++ front.answers) output.0, length-append first front.answers);
+      added = subst (Appends a c) e (Appends-trans a b c _ _ begun.added front.added);
+    }
 
 -- the first line and the answers were added
 pub record IsAnswered (number : ℕ) (end : History) (old new : Option (List ℕ)) : Type 0 where
@@ -154,23 +170,35 @@ is_answered number lines start end a b c are begun answered = record {
 }
 
 -- after the answers
-pub answers_alone : (number : ℕ) (end : History) (a c : Option (List ℕ)) → IsAnswered number end a c → AddsDemoFront number a c
+pub answers_alone : (number : ℕ) (end : History) (a c : Option (List ℕ)) → IsAnswered number end a c → AddsUntil NoMemory (DemoOutput number) a c
 answers_alone number end a c h =
     let output = run_output number h.start end h.answers h.starts h.runs in
     let before = demo_line number (demo_size number) ++ h.answers in
-    (before ++ output.0, length before, output.1, subst (Appends a c) (sym (take-append_seam before output.0)) h.added)
+    record {
+      text = before ++ output.0;
+      count = length before;
+      is = output.1;
+      proper = λ e. absurd cc;
+      added = subst (Appends a c) (sym (take-append_seam before output.0)) h.added;
+    }
 
 -- in the last line
 pub part_of_last : (number : ℕ) (end : History) (a c d : Option (List ℕ)) (view last : List ℕ) → IsAnswered number end a c → TellsChecked end last → view ≡ last → AppendsPart c d view
-    → AddsDemoFront number a d
+    → AddsUntil SinkFailed (DemoOutput number) a d
 part_of_last number end a c d view last h checked same part =
     let before = demo_line number (demo_size number) ++ h.answers in
     let e : before ++ take part.0 view ≡ take (length before + part.0) (before ++ last) = ap (λ (l : List ℕ). before ++ take part.0 l) same ∙ sym (take-append-add before last part.0) in
-    (before ++ last, length before + part.0, output_of number h.start end h.answers last h.starts h.runs checked, subst (Appends a d) e (Appends-trans a c d _ _ h.added part.2))
+    record {
+      text = before ++ last;
+      count = length before + part.0;
+      is = output_of number h.start end h.answers last h.starts h.runs checked;
+      proper = λ _. omega (arith, part.1, ap length same, length-append before last);
+      added = subst (Appends a d) e (Appends-trans a c d _ _ h.added part.2);
+    }
 
 -- the whole
 pub whole_demo : (number : ℕ) (end : History) (a c d : Option (List ℕ)) (view last : List ℕ) → IsAnswered number end a c → TellsChecked end last → view ≡ last → Appends c d view
-    → AddsDemo number a d
+    → AddsText (DemoOutput number) a d
 whole_demo number end a c d view last h checked same more = (
   demo_line number (demo_size number) ++ h.answers ++ last,
   output_of number h.start end h.answers last h.starts h.runs checked,

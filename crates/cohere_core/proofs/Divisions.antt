@@ -17,7 +17,8 @@ use Rattle.quotients.specs.declared.dividing.QuotientFault.{QuotientFault}
 use Rattle.quotients.specs.declared.dividing.QuotientFault.TheVariants as faults
 use Rattle.report_text.specs.EditLines.{refused_text_of}
 use Rattle.report_text.specs.Matrices.{quotient_text, sub_text}
-use Rattle.cohere_core.specs.ClosedSubsets.{RefusedUnless, NeedsClosed, AnswersQuotient, AnswersSub}
+use Rattle.report_text.specs.Refusals.{RefusedUnless}
+use Rattle.cohere_core.specs.ClosedSubsets.{NeedsClosed, AnswersQuotient, AnswersSub}
 use Rattle.cohere_core.proofs.ClosedLists.{has_answer_unless, one_answer_unless, answer_unless_has_bytes}
 
 -- ---- what can be decided

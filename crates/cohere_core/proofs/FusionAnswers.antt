@@ -5,12 +5,9 @@ use Rattle.std.specs.Prelude.{codes, if◌then◌else◌}
 use Rattle.std.proofs.Math.Nat.{min-le_left}
 use Rattle.std.proofs.lemmas.Bool.{cases_lt, lt-ltb}
 use Rattle.std.proofs.lemmas.List.{take_all, take-append-le, take-append-drop, length-take, length-take-le, get_or_append_left, length-append}
-use Rattle.pair_colours.specs.Colouring.{PairColouring, Refines, colour_at}
-use Rattle.pair_colours.specs.IntersectionNumber.{pair_of_class}
+use Rattle.pair_colours.specs.Colouring.{PairColouring}
 use Rattle.pair_colours.specs.Naming.{rank_of}
 use Rattle.pair_colours.specs.Subsets.{subsets}
-use Rattle.pair_colours.proofs.Closures.{IsClosure-same}
-use Rattle.pair_colours.proofs.LawProofs.{closure_exists}
 use Rattle.pair_colours.proofs.ThoseLemmas.{those_unique}
 use Rattle.struct_consts.specs.ClassData.{IsConfiguration}
 use Rattle.visitors.specs.Entries.{entry_at}
@@ -18,14 +15,12 @@ use Rattle.visitors.specs.Lists.{IsCut}
 use Rattle.visitors.specs.declared.visitor.TheConstants.{MOST_SET_RANK}
 use Rattle.colour_wl.specs.Fusions.{merge, Fuses, FusesAfter, IsFusionsAfter}
 use Rattle.colour_wl.specs.GrowthStrings.{IsGrowth, growth_strings}
-use Rattle.colour_wl.proofs.Classes.{colour_at-below, pair_of_class-holds}
-use Rattle.colour_wl.proofs.ColourRounds.{same_from_refines}
+use Rattle.colour_wl.proofs.Coarser.{closed_by_fusion, one_closing}
 use Rattle.colour_wl.proofs.Existing.{some_or_none, fusions_exist, fusions_after_exist}
 use Rattle.colour_wl.proofs.Growth.{list_same_or_not, growth_strings_grow, growth_strings_listed}
-use Rattle.colour_wl.proofs.Merged.{colour_at-merge, IsColouring-merge, refines-merge}
+use Rattle.colour_wl.proofs.Merged.{IsColouring-merge, refines-merge}
 use Rattle.good_subsets.specs.GoodSets.{IsGood, IsGoodSets}
 use Rattle.good_subsets.proofs.Deciding.{good_sets_exist}
-use Rattle.good_subsets.proofs.StringsOf.{IsStringOf, string_of}
 use Rattle.mergings.specs.Mergings.{IsMergings, IsNoGrowth}
 use Rattle.report_text.specs.EditLines.{refused_text_of}
 use Rattle.report_text.specs.Entries.{entry_line, entry_lines}
@@ -44,50 +39,13 @@ growth_or_not r a =
     (λ none. inr (λ g. none a (growth_strings_listed r a g) refl))
     (some_or_none (λ s. a ≡ s) (growth_strings r) (λ s. list_same_or_not a s))
 
--- a coarser colouring, told by the classes of K
-module _ (K L : PairColouring) (h : IsConfiguration K) (r : Refines K L) (b : List ℕ)
-    (s : IsStringOf (λ c. colour_at L (pair_of_class K c).0 (pair_of_class K c).1) (rank_of K) b) where
-  class_colour : (x y : ℕ) → x < K.size → y < K.size → colour_at L (pair_of_class K (colour_at K x y)).0 (pair_of_class K (colour_at K x y)).1 ≡ colour_at L x y
-  class_colour x y hx hy = let p = pair_of_class-holds K h (colour_at K x y) (colour_at-below K h x y hx hy) in r.classes _ _ x y p.row p.column hx hy p.colour
-
-  merged_finer : Refines L (merge K b)
-  merged_finer = record {
-    sizes = sym r.sizes;
-    classes = λ x y u v hx hy hu hv e.
-        let to : (z : ℕ) → z < L.size → z < K.size = λ z hz. omega (arith, hz, r.sizes) in
-        colour_at-merge K h.fits.colouring b x y (to x hx) (to y hy)
-        ∙ s.together _ _ (colour_at-below K h x y (to x hx) (to y hy)) (colour_at-below K h u v (to u hu) (to v hv))
-        (class_colour x y (to x hx) (to y hy) ∙ e ∙ sym (class_colour u v (to u hu) (to v hv)))
-        ∙ sym (colour_at-merge K h.fits.colouring b u v (to u hu) (to v hv));
-  }
-
-  merged_coarser : Refines (merge K b) L
-  merged_coarser = record {
-    sizes = r.sizes;
-    classes = λ x y u v hx hy hu hv e.
-        sym (class_colour x y hx hy)
-        ∙ s.apart _ _ (colour_at-below K h x y hx hy) (colour_at-below K h u v hu hv)
-        (sym (colour_at-merge K h.fits.colouring b x y hx hy) ∙ e ∙ colour_at-merge K h.fits.colouring b u v hu hv)
-        ∙ class_colour u v hu hv;
-  }
-
 closed_string : (K : PairColouring) → IsConfiguration K → (a : List ℕ) → (b : List ℕ) × IsClosedString K a b
 closed_string K h a =
-    let L = closure_exists (merge K a) (IsColouring-merge K h.fits.colouring a) in
-    let r : Refines K L.0 = L.1.coarsest K h.fits.colouring h.coherent (refines-merge K h.fits.colouring a) in
-    let s = string_of (λ c. colour_at L.0 (pair_of_class K c).0 (pair_of_class K c).1) (rank_of K) in (
-      s.0,
-      record {
-        growth = s.1.growth;
-        closure = IsClosure-same L.0 (merge K s.0) (merge K a) L.1 (IsColouring-merge K h.fits.colouring s.0) (merged_finer K L.0 h r s.0 s.1) (merged_coarser K L.0 h r s.0 s.1);
-      },
-    )
+    let b = closed_by_fusion K (merge K a) h (IsColouring-merge K h.colouring a) (refines-merge K h.colouring a) in
+    (b.0, record { growth = b.1.growth; closure = b.2.closure })
 
 one_closed_string : (K : PairColouring) → IsConfiguration K → (a b c : List ℕ) → IsClosedString K a b → IsClosedString K a c → b ≡ c
-one_closed_string K h a b c x y =
-    same_from_refines K h b c x.growth y.growth
-    (y.closure.coarsest (merge K b) x.closure.colouring x.closure.coherent x.closure.refines)
-    (x.closure.coarsest (merge K c) y.closure.colouring y.closure.coherent y.closure.refines)
+one_closed_string K h a b c x y = one_closing K (merge K a) h b c x.growth y.growth x.closure y.closure
 
 pub has_close : (K : PairColouring) → IsConfiguration K → (a : List ℕ) → (t : List ℕ) × AnswersClose K a t
 has_close K h a =

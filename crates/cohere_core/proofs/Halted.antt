@@ -1,9 +1,9 @@
 -- A task for which a file was not read.
-use Rattle.std.proofs.Common.{◌⊎◌, ℕ, List, Option, Some, None, refl, ap, subst, inl, inr}
+use Rattle.std.proofs.Common.{◌≡◌, ◌⊎◌, ℕ, List, Option, Some, None, refl, ap, subst, inl, inr}
 use Rattle.std.specs.Prelude.{◌≢◌, IsSome, IfSome}
 use Rattle.scheme_io.specs.Files.{Files, IsMissing}
 use Rattle.cohere_inputs.specs.declared.faults.FileFault.{FileFault}
-use Rattle.cohere_inputs.specs.declared.faults.FileFault.TheVariants.{Missing, TooLong, Relation, Script, Trace}
+use Rattle.cohere_inputs.specs.declared.faults.FileFault.TheVariants.{Missing, TooLong, Relation, Script, Trace, CellTrace}
 use Rattle.cohere_inputs.specs.declared.faults.Unread.{Unread}
 use Rattle.cohere_inputs.specs.declared.faults.Unread.TheVariants.{Bad, StoreFailed, NoMemory}
 use Rattle.cohere_inputs.specs.Task.{Task}
@@ -12,8 +12,9 @@ use Rattle.cohere_inputs.specs.Bad.{IsFault}
 use Rattle.cohere_inputs.specs.Lines.{halt_line, fault_line, unread_line}
 use Rattle.cohere_inputs.specs.Unread.{Halts}
 use Rattle.cohere_inputs.proofs.LawProofs.{none_is_first, first_bad_is_unique}
-use Rattle.cohere_core.specs.Halt.{halt_status}
-use Rattle.cohere_core.specs.Run.{ErrorLineAfter, IsDecided, SaysBad, SaysUnread, status_of}
+use Rattle.cohere_core.specs.declared.status.Status.TheVariants as statuses
+use Rattle.cohere_core.specs.Ending.{halt_status}
+use Rattle.cohere_core.specs.Run.{ErrorLineAfter, FirstBadIsMissing, FirstBadIsText, IsDecided, SaysBad, SaysUnread, status_of}
 
 -- a file is not there only where the store tells its files
 missing_where_told : (files : Option Files) (need : Need) → IfSome files (λ files. IsFault files need Missing) → IsSome files → IsMissing files need.name
@@ -39,15 +40,50 @@ halted_line files task name (Bad TooLong) rose says h said = says_bad files task
 halted_line files task name (Bad (Relation what at)) rose says h said = says_bad files task name (Relation what at) rose says (λ e. cc) h said
 halted_line files task name (Bad (Script line what)) rose says h said = says_bad files task name (Script line what) rose says (λ e. cc) h said
 halted_line files task name (Bad (Trace line what)) rose says h said = says_bad files task name (Trace line what) rose says (λ e. cc) h said
+halted_line files task name (Bad (CellTrace line what)) rose says h said = says_bad files task name (CellTrace line what) rose says (λ e. cc) h said
 halted_line files task name StoreFailed rose says h said = says_unread files task name StoreFailed rose says h (inl h.cause) said
 halted_line files task name NoMemory rose says h said = tt
 
+-- a bad file that is there is the first bad one
+pub halted_bad : (files : Option Files) (task : Task) (name : List ℕ) (why : Unread) (rose : Type 0) → Halts files task name why rose → halt_status why ≡ statuses.BadInput
+    → FirstBadIsText files task
+halted_bad None task name why rose h e = tt
+halted_bad (Some files) task name (Bad Missing) rose h e = absurd cc
+halted_bad (Some files) task name (Bad TooLong) rose h e = (h.need, TooLong, λ m. cc, h.reached, h.cause.0)
+halted_bad (Some files) task name (Bad (Relation what at)) rose h e = (h.need, Relation what at, λ m. cc, h.reached, h.cause.0)
+halted_bad (Some files) task name (Bad (Script line what)) rose h e = (h.need, Script line what, λ m. cc, h.reached, h.cause.0)
+halted_bad (Some files) task name (Bad (Trace line what)) rose h e = (h.need, Trace line what, λ m. cc, h.reached, h.cause.0)
+halted_bad (Some files) task name (Bad (CellTrace line what)) rose h e = (h.need, CellTrace line what, λ m. cc, h.reached, h.cause.0)
+halted_bad (Some files) task name StoreFailed rose h e = absurd cc
+halted_bad (Some files) task name NoMemory rose h e = absurd cc
+
+-- where the store failed, its count rose, or the first bad file is not there
+first_is_missing : (files : Option Files) (task : Task) (name : List ℕ) (rose : Type 0) (h : Halts files task name (Bad Missing) rose) → IsSome files → FirstBadIsMissing files task
+first_is_missing None task name rose h told = told
+first_is_missing (Some files) task name rose h told = (h.need, h.reached, h.cause.0)
+
+pub halted_store : (files : Option Files) (task : Task) (name : List ℕ) (why : Unread) (rose : Type 0) → Halts files task name why rose → halt_status why ≡ statuses.StoreFailed
+    → rose ⊎ FirstBadIsMissing files task
+halted_store files task name (Bad Missing) rose h e = inr (first_is_missing files task name rose h (h.cause.1 refl))
+halted_store files task name (Bad TooLong) rose h e = absurd cc
+halted_store files task name (Bad (Relation what at)) rose h e = absurd cc
+halted_store files task name (Bad (Script line what)) rose h e = absurd cc
+halted_store files task name (Bad (Trace line what)) rose h e = absurd cc
+halted_store files task name (Bad (CellTrace line what)) rose h e = absurd cc
+halted_store files task name StoreFailed rose h e = inl h.cause
+halted_store files task name NoMemory rose h e = absurd cc
+
 -- the files decide the status, where no count of faults rose
-pub halted_status : (files : Files) (task : Task) (name : List ℕ) (why : Unread) (rose good_status : Type 0) → Halts (Some files) task name why rose → (rose → ⊥)
-    → IsDecided files task (halt_status why) good_status
-halted_status files task name (Bad fault) rose good_status h calm = record {
+halted_files : (files : Files) (task : Task) (name : List ℕ) (why : Unread) (rose : Type 0) → Halts (Some files) task name why rose → (rose → ⊥)
+    → IsDecided files task (halt_status why)
+halted_files files task name (Bad fault) rose h calm = record {
   good = λ good. absurd (none_is_first files task h.need fault good (h.reached, h.cause.0));
   bad = λ other another bad. inl (ap status_of (first_bad_is_unique files task h.need other fault another (h.reached, h.cause.0) bad).1);
 }
-halted_status files task name StoreFailed rose good_status h calm = absurd (calm h.cause)
-halted_status files task name NoMemory rose good_status h calm = record { good = λ good. inr refl; bad = λ other another bad. inr refl }
+halted_files files task name StoreFailed rose h calm = absurd (calm h.cause)
+halted_files files task name NoMemory rose h calm = record { good = λ good. inr refl; bad = λ other another bad. inr refl }
+
+pub halted_status : (files : Option Files) (task : Task) (name : List ℕ) (why : Unread) (rose : Type 0) → Halts files task name why rose → (rose → ⊥)
+    → IfSome files (λ given. IsDecided given task (halt_status why))
+halted_status None task name why rose h calm = tt
+halted_status (Some files) task name why rose h calm = halted_files files task name why rose h calm

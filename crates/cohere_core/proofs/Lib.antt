@@ -1,3 +1,5 @@
+mod Fronts
+mod Told
 mod ClosedLists
 mod Divisions
 mod FusionAnswers
@@ -7,7 +9,12 @@ mod Runs
 mod OneOutput
 mod ShownTraces
 mod Halted
+mod Endings
 mod RunOutputs
+mod Judgements
 mod CheckOutputs
+mod CellsOutputs
+mod AskOutputs
+mod FreeOutputs
 mod DemoClaims
 mod DemoOutputs

@@ -56,7 +56,7 @@ one_text h k P t u i alike one a b =
 
 -- which is a configuration
 is_configuration : (h : History) (K : PairColouring) → IsHistory h → IsClosureOf K (present h) → IsConfiguration K
-is_configuration h K i is = record { fits = (closure_is_raw (present h) K (present_is_raw h i) is).fits; coherent = is.closure.coherent; named = is.named }
+is_configuration h K i is = record { colouring = is.closure.colouring; coherent = is.closure.coherent; named = is.named }
 
 one_configured : (h k : History) (P : PairColouring → List ℕ → Type 0) (t u : List ℕ) → IsHistory h → AreAlike h k
     → ((K : PairColouring) → IsConfiguration K → P K t → P K u → t ≡ u) → OfConfiguration h (λ K. P K t) → OfConfiguration k (λ K. P K u) → t ≡ u

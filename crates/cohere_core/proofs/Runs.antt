@@ -50,9 +50,11 @@ use Rattle.cohere_core.proofs.Divisions.{has_quotient, quotient_has_bytes, has_s
 use Rattle.cohere_core.proofs.FusionAnswers.{has_close, close_has_bytes, has_good, good_has_bytes, has_mergings, mergings_has_bytes}
 use Rattle.cohere_core.specs.Answer.{AnswersArray, WritesGraph, OfConfiguration, IsAccepted, IsHalfway, MoveTakesMemory, Moves, TakesMemory, Tells, TellsTrace, Answers, Runs, Answered, Stopped, move_of}
 use Rattle.cohere_core.specs.Law.{OutputExists, RunExists}
-use Rattle.cohere_core.specs.Output.{AddsScriptFront}
+use Rattle.cohere_core.specs.Added.{AddsUntil}
+use Rattle.cohere_core.specs.Output.{ScriptOutput}
 use Rattle.cohere_core.specs.Products.{AreProducts, HasProduct, left_by, left_after}
 use Rattle.cohere_core.specs.Queries.{is_query}
+use Rattle.cohere_core.proofs.Fronts.{nothing_until}
 use Rattle.cohere_core.proofs.ActLemmas.{move_is_raw, only_asks}
 use Rattle.cohere_core.proofs.ProductLists.{around, product_at, product_first, products_left, products_tail}
 
@@ -324,16 +326,16 @@ output_exists C products lines raw are =
 
 -- before the first line nothing of it was written
 pub nothing_of_output : (C : PairColouring) (products : List PairColouring) (lines : List Line) (a : Option (List ℕ)) → IsRawColouring C → AreProducts products lines
-    → AddsScriptFront C products lines a a
-nothing_of_output C products lines a raw are = let t = output_exists C products lines raw are in (t.0, 0, t.1, Appends-nil a)
+    → AddsUntil NoMemory (ScriptOutput C products lines) a a
+nothing_of_output C products lines a raw are = let t = output_exists C products lines raw are in nothing_until (ScriptOutput C products lines) t.0 a t.1
 
--- a front of the answers of the lines was added, along a run from this history
+-- a front of the answers of the lines was added, and not all of them, along a run from this history
 pub record AddsFrontOfRun (start : History) (products : List PairColouring) (lines : List Line) (old new : Option (List ℕ)) : Type 0 where
   pub end : History
   pub answers : List ℕ
   pub runs : Runs start products lines end answers
   pub part : ℕ
-  pub within : part ≤ length answers
+  pub proper : part < length answers
   pub added : Appends old new (take part answers)
 
 -- what was written when a session stopped is such a front
@@ -354,13 +356,13 @@ front_of_run fault products lines start bench a b i are s =
       answers = s.text ++ (s.answer ++ rest.1);
       runs = subst (λ (l : List Line). Runs start products l rest.0 (s.text ++ (s.answer ++ rest.1))) (around lines s.count s.line s.is_next) whole;
       part = length s.text + s.part;
-      within = omega (arith, le, length-append s.text (s.answer ++ rest.1), length-append s.answer rest.1);
+      proper = omega (arith, s.proper, length-append s.text (s.answer ++ rest.1), length-append s.answer rest.1);
       added = subst (Appends a b) (sym front) s.added;
     }
 
 -- and so of a whole output
 pub front_of_output : (fault : SessionFault) (C : PairColouring) (products : List PairColouring) (lines : List Line) (start bench : History) (a b : Option (List ℕ)) → IsRawColouring C
-    → AreProducts products lines → Starts C start → Stopped fault start products lines bench a b → AddsScriptFront C products lines a b
+    → AreProducts products lines → Starts C start → Stopped fault start products lines bench a b → AddsUntil fault (ScriptOutput C products lines) a b
 front_of_output fault C products lines start bench a b raw are starts s =
     let front = front_of_run fault products lines start bench a b (start_is_history C start raw starts) are s in
-    (front.answers, front.part, (start, starts, front.end, front.runs), front.added)
+    record { text = front.answers; count = front.part; is = (start, starts, front.end, front.runs); proper = λ e. front.proper; added = front.added }

@@ -1,5 +1,5 @@
 -- The answers that speak of the closed subsets of a configuration.
-use Rattle.std.specs.Prelude.{◌≡◌, ◌⊎◌, ◌<◌, ◌≤◌, ℕ, List, codes}
+use Rattle.std.specs.Prelude.{◌≡◌, ◌<◌, ◌≤◌, ℕ, List, codes}
 use Rattle.pair_colours.specs.Colouring.{PairColouring}
 use Rattle.pair_colours.specs.ColourSets.{is_in}
 use Rattle.pair_colours.specs.ClosedSet.{ClosedSets}
@@ -7,14 +7,10 @@ use Rattle.pair_colours.specs.Naming.{rank_of}
 use Rattle.visitors.specs.declared.visitor.TheConstants.{MOST_SET_RANK}
 use Rattle.pair_colours.specs.Fibres.{HasOneFibre}
 use Rattle.quotients.specs.Quotient.{IsClosedSubset, Quotient, Subscheme}
-use Rattle.report_text.specs.EditLines.{refused_text_of}
+use Rattle.report_text.specs.Refusals.{RefusedUnless}
 use Rattle.report_text.specs.Matrices.{quotient_text, sub_text}
 use Rattle.report_text.specs.Sets.{sets_text_of}
 use Rattle.report_text.specs.declared.sets.SetHead.TheVariants.{Closed}
-
--- t refuses with the word where P does not hold; where P holds, so does the answer
-abbrev pub RefusedUnless : Type 0 → List ℕ → List ℕ → Type 0 → Type 0
-RefusedUnless P word t answer = (¬ P × (t ≡ refused_text_of word)) ⊎ (P × answer)
 
 -- t lists the closed subsets of K, which must have few classes
 abbrev pub ListsClosed : PairColouring → List ℕ → Type 0

@@ -1,13 +1,10 @@
--- The form `demo NUMBER`: what it answers, and what it adds to the output.
-use Rattle.std.specs.Prelude.{◌≡◌, ◌⊎◌, ◌++◌, ℕ, List, [], length, take, Option, codes, decimal, ⊤}
-use Rattle.std.specs.Io.KnownBytes.{Appends}
+-- The form `demo NUMBER`: what it answers.
+use Rattle.std.specs.Prelude.{◌≡◌, ◌++◌, ℕ, List, [], length, codes, decimal}
 use Rattle.pair_colours.specs.Naming.{rank_of}
 use Rattle.trace_text.specs.declared.stage_list.Claim.{Claim}
 use Rattle.recolour_bench.specs.EntryChains.{claim_by}
 use Rattle.recolour_bench.specs.History.{History, Starts, present_chain}
 use Rattle.scheme_demo.specs.Demonstration.{demo_size, demo_relation_of, demo_lines_of}
-use Rattle.cohere_core.specs.declared.status.Status.{Status}
-use Rattle.cohere_core.specs.declared.status.Status.TheVariants.{Done, SinkFailed, NoMemory}
 use Rattle.cohere_core.specs.Answer.{OfConfiguration, Runs}
 
 -- the first line: the number, and how many points its relation has
@@ -33,32 +30,6 @@ pub record DemoOutput (number : ℕ) (t : List ℕ) : Type 0 where
   pub last : List ℕ
   pub checked : TellsChecked end last
   pub text : t ≡ demo_line number (demo_size number) ++ answers ++ last
-
--- a whole output was added
-abbrev pub AddsDemo : ℕ → Option (List ℕ) → Option (List ℕ) → Type 0
-AddsDemo number old new = (t : List ℕ) × DemoOutput number t × Appends old new t
-
--- a front of an output was added
-abbrev pub AddsDemoFront : ℕ → Option (List ℕ) → Option (List ℕ) → Type 0
-AddsDemoFront number old new = (t : List ℕ) × (n : ℕ) × DemoOutput number t × Appends old new (take n t)
-
--- what was added to the output after this status, over every store
-abbrev pub DemoOutputAfter : ℕ → Status → Option (List ℕ) → Option (List ℕ) → Type 0
-DemoOutputAfter number Done old new = AddsDemo number old new
-DemoOutputAfter number SinkFailed old new = AddsDemoFront number old new
-DemoOutputAfter number NoMemory old new = AddsDemoFront number old new
-DemoOutputAfter number _ old new = ⊥
-
--- nothing is loaded, and the claim is accepted
-abbrev pub DemoMayAnswer : Status → Type 0
-DemoMayAnswer Done = ⊤
-DemoMayAnswer SinkFailed = ⊤
-DemoMayAnswer NoMemory = ⊤
-DemoMayAnswer _ = ⊥
-
--- the status where the output's count of faults did not rise
-abbrev pub IsDemoStatus : Status → Type 0
-IsDemoStatus status = (status ≡ Done) ⊎ (status ≡ NoMemory)
 
 -- the claim of the present entry of the history: that its chain leads to its closure
 abbrev pub IsClaimOf : History → Claim → Type 0

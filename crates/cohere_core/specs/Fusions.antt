@@ -11,7 +11,7 @@ use Rattle.good_subsets.specs.GoodSets.{IsGoodSets}
 use Rattle.report_text.specs.Sets.{sets_text_of}
 use Rattle.report_text.specs.declared.sets.SetHead.TheVariants.{Good}
 use Rattle.report_text.specs.Strings.{close_text_of, mergings_text_of}
-use Rattle.cohere_core.specs.ClosedSubsets.{RefusedUnless}
+use Rattle.report_text.specs.Refusals.{RefusedUnless}
 
 -- b is the growth string by which the classes of K are merged to the closure of what a merges them to
 pub record IsClosedString (K : PairColouring) (a b : List ℕ) : Type 0 where

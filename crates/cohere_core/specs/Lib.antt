@@ -6,10 +6,13 @@ pub mod Queries
 pub mod Answer
 pub mod Move
 pub mod Output
+pub mod Added
 pub mod RunForm
 pub mod CheckForm
 pub mod DemoForm
+pub mod AskForms
+pub mod Forms
 pub mod Run
+pub mod Ending
 pub mod Agreement
 pub mod Law
-pub mod Halt

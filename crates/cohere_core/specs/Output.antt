@@ -1,6 +1,5 @@
 -- The output of a script.
-use Rattle.std.specs.Prelude.{ℕ, List, take, Option}
-use Rattle.std.specs.Io.KnownBytes.{Appends}
+use Rattle.std.specs.Prelude.{ℕ, List}
 use Rattle.pair_colours.specs.Colouring.{PairColouring}
 use Rattle.recolour_bench.specs.History.{History, Starts}
 use Rattle.script_text.specs.declared.acts.Line.{Line}
@@ -9,11 +8,3 @@ use Rattle.cohere_core.specs.Answer.{Runs}
 -- t is the answers of the lines, along a run from a history that starts with C; the lines that take a product take these, in order
 abbrev pub ScriptOutput : PairColouring → List PairColouring → List Line → List ℕ → Type 0
 ScriptOutput C products lines t = (start : History) × Starts C start × (end : History) × Runs start products lines end t
-
--- an output of the script was added
-abbrev pub AddsScript : PairColouring → List PairColouring → List Line → Option (List ℕ) → Option (List ℕ) → Type 0
-AddsScript C products lines old new = (t : List ℕ) × ScriptOutput C products lines t × Appends old new t
-
--- a front of an output of the script was added
-abbrev pub AddsScriptFront : PairColouring → List PairColouring → List Line → Option (List ℕ) → Option (List ℕ) → Type 0
-AddsScriptFront C products lines old new = (t : List ℕ) × (n : ℕ) × ScriptOutput C products lines t × Appends old new (take n t)

@@ -1,10 +1,11 @@
 -- What holds after a call of the program: what it answers, and what it adds to its output and to its errors.
--- Each form of words has its case where the forms differ.
+-- Where the forms of words differ, `Forms` has a case for each.
 use Rattle.std.specs.Prelude.{◌≡◌, ◌≢◌, ◌⊎◌, ℕ, List, Option, Some, None, IfSome, IsSomeAnd, ⊤}
+use Rattle.std.specs.Io.KnownBytes.{Keeps}
 use Rattle.scheme_io.specs.Files.{Files, IsMissing}
 use Rattle.cohere_inputs.specs.declared.faults.FileFault.{FileFault}
 use Rattle.cohere_inputs.specs.declared.faults.FileFault.TheVariants.{Missing}
-use Rattle.cohere_inputs.specs.Task.{Task, Run, Check, Demo}
+use Rattle.cohere_inputs.specs.Task.{Task}
 use Rattle.cohere_inputs.specs.Needs.{Need}
 use Rattle.cohere_inputs.specs.Texts.{CanBe}
 use Rattle.cohere_inputs.specs.Bad.{IsFault, IsFirstBad, NoneIsBad}
@@ -12,30 +13,43 @@ use Rattle.cohere_inputs.specs.Unread.{ComesTo}
 use Rattle.cohere_inputs.specs.Lines.{usage_line, memory_line, unread_line, fault_line}
 use Rattle.cohere_core.specs.declared.status.Status.{Status}
 use Rattle.cohere_core.specs.declared.status.Status.TheVariants.{Done, CheckedNo, Usage, BadInput, StoreFailed, SinkFailed, NoMemory}
-use Rattle.cohere_core.specs.RunForm.{RunOutputAfter, RunMayAnswer}
-use Rattle.cohere_core.specs.CheckForm.{CheckOutputAfter, CheckMayAnswer, IsCheckStatus}
-use Rattle.cohere_core.specs.DemoForm.{DemoOutputAfter, DemoMayAnswer, IsDemoStatus}
+use Rattle.cohere_core.specs.Added.{AddsFront, AddsProperFront, AddsText}
+use Rattle.cohere_core.specs.Forms.{IfNothingIsLoaded, IfTold, IsOutputOf, IsSomeOutputOf, IsWholeStatus, Judges, LoadsFiles}
 
--- ---- the status and the output, by the form of the words
+-- ---- the status and the output
 
--- a task may be answered by this status
+-- a task may be answered by this status: CheckedNo where it judges a claim, and the causes that lie in files where it loads some
 abbrev pub MayAnswer : Task → Status → Type 0
-MayAnswer (Run run) status = RunMayAnswer status
-MayAnswer (Check trace) status = CheckMayAnswer status
-MayAnswer (Demo number) status = DemoMayAnswer status
+MayAnswer task CheckedNo = Judges task
+MayAnswer task Usage = ⊥
+MayAnswer task BadInput = LoadsFiles task
+MayAnswer task StoreFailed = LoadsFiles task
+MayAnswer task _ = ⊤
 
--- what was added to the output after this status
+-- a front of an output was added where no file is bad, and nothing where one is
+pub record AddsFrontOrNothing (files : Files) (task : Task) (old new : Option (List ℕ)) : Type 0 where
+  pub front : NoneIsBad files task → AddsFront (IsSomeOutputOf files task) old new
+  pub nothing : (need : Need) (fault : FileFault) → IsFirstBad files task need fault → Keeps old new
+
+-- what was added to the output after this status, over these files: a whole output that the status says; a front of an output;
+-- or nothing
+abbrev pub AddsAfter : Files → Task → Status → Option (List ℕ) → Option (List ℕ) → Type 0
+AddsAfter files task Done old new = NoneIsBad files task × AddsText (IsOutputOf files task Done) old new
+AddsAfter files task CheckedNo old new = NoneIsBad files task × AddsText (IsOutputOf files task CheckedNo) old new
+AddsAfter files task Usage old new = ⊥
+AddsAfter files task BadInput old new = Keeps old new
+AddsAfter files task StoreFailed old new = Keeps old new
+AddsAfter files task SinkFailed old new = NoneIsBad files task × AddsProperFront (IsSomeOutputOf files task) old new
+AddsAfter files task NoMemory old new = AddsFrontOrNothing files task old new
+
+-- and so where the store tells its files
 abbrev pub OutputAfter : Task → Status → Option Files → Option (List ℕ) → Option (List ℕ) → Type 0
-OutputAfter (Run run) status files old new = IfSome files (λ files. RunOutputAfter run status files old new)
-OutputAfter (Check trace) status files old new = IfSome files (λ files. CheckOutputAfter trace status files old new)
-OutputAfter (Demo number) status files old new = DemoOutputAfter number status old new
+OutputAfter task status files old new = IfTold task files (λ given. AddsAfter given task status old new)
 
 -- the fact, where no file is loaded for what the words ask for
-abbrev pub IfNothingIsLoaded : Option Task → Type 0 → Type 0
-IfNothingIsLoaded None fact = fact
-IfNothingIsLoaded (Some (Run run)) fact = ⊤
-IfNothingIsLoaded (Some (Check trace)) fact = ⊤
-IfNothingIsLoaded (Some (Demo number)) fact = fact
+abbrev pub IfNothingIsLoadedFor : Option Task → Type 0 → Type 0
+IfNothingIsLoadedFor None fact = fact
+IfNothingIsLoadedFor (Some task) fact = IfNothingIsLoaded task fact
 
 -- before this status the output is not touched
 abbrev pub IsBeforeOutput : Status → Type 0
@@ -90,16 +104,14 @@ abbrev pub status_of : FileFault → Status
 status_of Missing = StoreFailed
 status_of _ = BadInput
 
--- the files decide the status, unless memory is wanting: it is this where no file is bad, and else that of the first bad one
-pub record IsDecided (files : Files) (task : Task) (status : Status) (good_status : Type 0) : Type 0 where
-  pub good : NoneIsBad files task → good_status ⊎ (status ≡ NoMemory)
+-- the files decide the status, unless memory is wanting: where no file is bad, as the output does, and else by the first bad one
+pub record IsDecided (files : Files) (task : Task) (status : Status) : Type 0 where
+  pub good : NoneIsBad files task → IsWholeStatus files task status ⊎ (status ≡ NoMemory)
   pub bad : (need : Need) (fault : FileFault) → IsFirstBad files task need fault → (status ≡ status_of fault) ⊎ (status ≡ NoMemory)
 
 -- the status where no count of faults rose
 abbrev pub IsStatusWithoutFaults : Task → Status → Option Files → Type 0
-IsStatusWithoutFaults (Run run) status files = IfSome files (λ files. IsDecided files (Run run) status (status ≡ Done))
-IsStatusWithoutFaults (Check trace) status files = IfSome files (λ files. IsDecided files (Check trace) status (IsCheckStatus files trace status))
-IsStatusWithoutFaults (Demo number) status files = IsDemoStatus status
+IsStatusWithoutFaults task status files = IfTold task files (λ given. IsDecided given task status)
 
 -- the store tells its files, and the first bad one is not there
 abbrev pub FirstBadIsMissing : Option Files → Task → Type 0

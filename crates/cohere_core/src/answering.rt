@@ -1,11 +1,12 @@
 //! The answers of a script, line by line.
 
-ghost use Rattle.std.specs.Prelude.{◌≡◌, ◌≤◌, OnOk, OnErr, IfErr, IsErrOf};
+ghost use Rattle.std.specs.Prelude.{◌≡◌, ◌≤◌, OnOk, IfErr, IsErrOf};
 ghost use Rattle.scheme_io.specs.Count.{Rose};
 ghost use Rattle.pair_colours.specs.Colouring.{IsRawColouring};
 ghost use Rattle.recolour_bench.specs.History.{IsHistory};
 ghost use Rattle.cohere_core.specs.Answer.{Answered, KeepLimits, Stopped};
-ghost use Rattle.cohere_core.specs.Output.{AddsScript, AddsScriptFront};
+ghost use Rattle.cohere_core.specs.Added.{AddsText, AddsUntil};
+ghost use Rattle.cohere_core.specs.Output.{ScriptOutput};
 ghost use Rattle.cohere_core.specs.Products.{AreProducts, left_by};
 
 use crate::answers::answer;
@@ -110,8 +111,8 @@ pub(crate) fn answer_script<O: Sink>(
     requires raw { IsRawColouring relation }
     requires limits { KeepLimits lines.now }
     requires products { AreProducts products.now lines.now }
-    ensures all { OnOk result (AddsScript relation products.now lines.now (O.written out.old) (O.written out.new)) }
-    ensures front { OnErr result (AddsScriptFront relation products.now lines.now (O.written out.old) (O.written out.new)) }
+    ensures all { OnOk result (AddsText (ScriptOutput relation products.now lines.now) (O.written out.old) (O.written out.new)) }
+    ensures front { IfErr result (λ fault. AddsUntil fault (ScriptOutput relation products.now lines.now) (O.written out.old) (O.written out.new)) }
     ensures failed { IsErrOf result SessionFault.SinkFailed → Rose (O.faults out.old) (O.faults out.new) }
 {
     let mut bench = Bench::new(alloc, relation)?;

@@ -1,20 +1,22 @@
 //! The form `check TRACE`: the claim of a trace is judged.
 
-ghost use Rattle.std.specs.Prelude.{◌≡◌, ◌≢◌, ◌⊎◌, ◌^◌, ◌<◌, ◌≤◌, length, IfOk, OnErr, IsErrOf};
-ghost use Rattle.std.specs.Io.KnownBytes.{Appends};
+ghost use Rattle.std.specs.Prelude.{◌≡◌, ◌^◌, ◌<◌, ◌≤◌, length, IfErr, IfOk, IsErrOf};
 ghost use Rattle.scheme_io.specs.Count.{Rose};
+ghost use Rattle.std.specs.Io.KnownBytes.{Appends};
 ghost use Rattle.trace_text.specs.BadLines.{line_count};
 ghost use Rattle.trace_check.specs.Verdict.{IsVerdict};
 ghost use Rattle.report_text.specs.Verdicts.{verdict_text_of};
 ghost use Rattle.cohere_inputs.specs.Said.{AddsLine};
 ghost use Rattle.cohere_inputs.specs.Task.{Check};
-ghost use Rattle.cohere_core.specs.CheckForm.{AddsAnswerFront};
-ghost use Rattle.cohere_core.specs.Run.{MayAnswer, OutputAfter, IsQuiet, LineAfter, ErrorLineAfter, IsStatusWithoutFaults, FirstBadIsMissing, FirstBadIsText, IsBeforeOutput};
+ghost use Rattle.cohere_core.specs.Added.{AddsUntil};
+ghost use Rattle.cohere_core.specs.CheckForm.{TellsVerdict};
+ghost use Rattle.cohere_core.specs.Ending.{IsEnding};
+ghost use Rattle.cohere_core.specs.Run.{IsBeforeOutput, IsQuiet};
 
 use crate::Status;
 use crate::answering::SessionFault;
-use crate::halting::report;
-use cohere_inputs::{check_input, say_no_memory};
+use crate::halting::{report, status_of_fault};
+use cohere_inputs::check_input;
 use report_text::verdict_text;
 use scheme_io::{Sink, Store, put_all};
 use std::alloc::Global;
@@ -27,7 +29,7 @@ fn judge<O: Sink>(alloc: Global, claim: &Claim, out: &mut O) -> Result<Verdict, 
     requires lines { line_count claim.now < 2 ^ 32 }
     ensures verdict { IfOk result (IsVerdict claim.now) }
     ensures all { IfOk result (λ verdict. Appends (O.written out.old) (O.written out.new) (verdict_text_of verdict)) }
-    ensures front { OnErr result (AddsAnswerFront claim.now (O.written out.old) (O.written out.new)) }
+    ensures front { IfErr result (λ fault. AddsUntil fault (TellsVerdict claim.now) (O.written out.old) (O.written out.new)) }
     ensures failed { IsErrOf result SessionFault.SinkFailed → Rose (O.faults out.old) (O.faults out.new) }
 {
     let verdict = check(alloc, claim)?;
@@ -44,19 +46,10 @@ pub(crate) fn answer_check<S: Store, O: Sink, E: Sink>(
     out: &mut O,
     err: &mut E,
 ) -> Status
-    ensures output { OutputAfter (Check trace.now) result (S.files store.old) (O.written out.old) (O.written out.new) }
+    ensures ending { IsEnding (S.files store.old) (Check trace.now) result (Rose (S.faults store.old) (S.faults store.new)) (Rose (O.faults out.old) (O.faults out.new))
+        (O.written out.old) (O.written out.new) (AddsLine E.written E.faults err.old err.new) }
     ensures quiet { IsQuiet result → err.new ≡ err.old }
-    ensures line { LineAfter result (AddsLine E.written E.faults err.old err.new) }
-    ensures error_line { ErrorLineAfter (Check trace.now) result (S.files store.old)
-        (Rose (S.faults store.old) (S.faults store.new)) (AddsLine E.written E.faults err.old err.new) }
-    ensures may_answer { MayAnswer (Check trace.now) result }
     ensures same_out { IsBeforeOutput result → out.new ≡ out.old }
-    ensures bad_input { result ≡ Status.BadInput → FirstBadIsText (S.files store.old) (Check trace.now) }
-    ensures store_failed { result ≡ Status.StoreFailed
-        → Rose (S.faults store.old) (S.faults store.new) ⊎ FirstBadIsMissing (S.files store.old) (Check trace.now) }
-    ensures sink_failed { result ≡ Status.SinkFailed → Rose (O.faults out.old) (O.faults out.new) }
-    ensures complete { ¬ Rose (S.faults store.old) (S.faults store.new) → ¬ Rose (O.faults out.old) (O.faults out.new)
-        → IsStatusWithoutFaults (Check trace.now) result (S.files store.old) }
     ensures same_files { S.files store.new ≡ S.files store.old }
 {
     let claim = match check_input(alloc, store, trace) {
@@ -66,10 +59,6 @@ pub(crate) fn answer_check<S: Store, O: Sink, E: Sink>(
     match judge(alloc, &claim, out) {
         Ok(Verdict::Accepted { .. }) => Status::Done,
         Ok(Verdict::Refused { .. }) => Status::CheckedNo,
-        Err(SessionFault::SinkFailed) => Status::SinkFailed,
-        Err(SessionFault::NoMemory) => {
-            say_no_memory(err);
-            Status::NoMemory
-        }
+        Err(fault) => status_of_fault(err, fault),
     }
 }

@@ -1,16 +1,19 @@
 //! The form `demo NUMBER`: lines are answered over a relation, and the chain that they leave is judged.
 
-ghost use Rattle.std.specs.Prelude.{◌≡◌, IfOk, OnOk, OnErr, IsErrOf};
+ghost use Rattle.std.specs.Prelude.{◌≡◌, IfErr, IfOk, OnOk, IsErrOf};
 ghost use Rattle.scheme_io.specs.Count.{Rose};
 ghost use Rattle.recolour_bench.specs.History.{IsHistory};
 ghost use Rattle.cohere_inputs.specs.Said.{AddsLine};
-ghost use Rattle.cohere_core.specs.DemoForm.{AddsDemo, AddsDemoFront, DemoMayAnswer, DemoOutputAfter, IsClaimOf, IsDemoStatus, TellsChecked, checked_line, demo_line};
-ghost use Rattle.cohere_core.specs.Run.{IsQuiet, LineAfter};
+ghost use Rattle.cohere_inputs.specs.Task.{Demo};
+ghost use Rattle.cohere_core.specs.Added.{AddsText, AddsUntil};
+ghost use Rattle.cohere_core.specs.DemoForm.{DemoOutput, IsClaimOf, TellsChecked, checked_line, demo_line};
+ghost use Rattle.cohere_core.specs.Ending.{IsEndingWithoutFiles};
+ghost use Rattle.cohere_core.specs.Run.{IsBeforeOutput, IsQuiet};
 
 use crate::Status;
 use crate::answering::{SessionFault, session};
+use crate::halting::status_of_fault;
 use crate::queries::traced;
-use cohere_inputs::say_no_memory;
 use pair_colours::NoMemory;
 use recolour_bench::Bench;
 use scheme_demo::{demo_lines, demo_relation};
@@ -78,8 +81,8 @@ fn demonstrate<O: Sink>(
     out: &mut O,
     visitor: &mut dyn Visitor,
 ) -> Result<(), SessionFault>
-    ensures all { OnOk result (AddsDemo number (O.written out.old) (O.written out.new)) }
-    ensures front { OnErr result (AddsDemoFront number (O.written out.old) (O.written out.new)) }
+    ensures all { OnOk result (AddsText (DemoOutput number) (O.written out.old) (O.written out.new)) }
+    ensures front { IfErr result (λ fault. AddsUntil fault (DemoOutput number) (O.written out.old) (O.written out.new)) }
     ensures failed { IsErrOf result SessionFault.SinkFailed → Rose (O.faults out.old) (O.faults out.new) }
 {
     let relation = demo_relation(alloc, number)?;
@@ -102,19 +105,13 @@ pub(crate) fn answer_demo<O: Sink, E: Sink>(
     err: &mut E,
     visitor: &mut dyn Visitor,
 ) -> Status
-    ensures output { DemoOutputAfter number result (O.written out.old) (O.written out.new) }
+    ensures ending { IsEndingWithoutFiles (Demo number) result (Rose (O.faults out.old) (O.faults out.new))
+        (O.written out.old) (O.written out.new) (AddsLine E.written E.faults err.old err.new) }
     ensures quiet { IsQuiet result → err.new ≡ err.old }
-    ensures line { LineAfter result (AddsLine E.written E.faults err.old err.new) }
-    ensures may_answer { DemoMayAnswer result }
-    ensures sink_failed { result ≡ Status.SinkFailed → Rose (O.faults out.old) (O.faults out.new) }
-    ensures complete { ¬ Rose (O.faults out.old) (O.faults out.new) → IsDemoStatus result }
+    ensures same_out { IsBeforeOutput result → out.new ≡ out.old }
 {
     match demonstrate(alloc, number, out, visitor) {
         Ok(()) => Status::Done,
-        Err(SessionFault::SinkFailed) => Status::SinkFailed,
-        Err(SessionFault::NoMemory) => {
-            say_no_memory(err);
-            Status::NoMemory
-        }
+        Err(fault) => status_of_fault(err, fault),
     }
 }

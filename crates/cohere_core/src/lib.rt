@@ -2,22 +2,26 @@
 //!
 //! * `running`: `run`, with the headline and the causes of its statuses (`status`).
 //! * `run_form`: the form of words that answers a script over a relation.
-//! * `check_form`: the form of words that judges a trace.
+//! * `check_form`, `cells_form`: the forms of words that judge a trace, and a trace of cells.
 //! * `demo_form`: the form of words that answers seven lines over a relation made from a number.
-//! * `halting`: the status where a file was not read.
+//! * `ask_forms`: the forms of words that answer a question about a relation.
+//! * `table_form`: the form of words that tells the parameters of an intersection array.
+//! * `halting`: the status where a file was not read, or the answers were not written whole.
 //! * `answering`: `session`, the answers of a script line by line; `answers`: one of them, and
 //!   `queries`: one that changes nothing; `subset_queries`: one about closed subsets, and
 //!   `fusion_queries`: one about fusions.
 //! * `laws`: every script has an output over every relation, and its outputs differ in the steps of
 //!   traces alone; a check accepts each trace that is shown; each demonstration has one output.
 //!
-//! The definitions stand in `specs/`: `Run` says what holds after each status, with a case for each
-//! form of words (`RunForm`, `CheckForm`, `DemoForm`), and `Output` and `Answer` what is written. The words, the
-//! files and the lines on standard error are those of `cohere_inputs`.
+//! The definitions stand in `specs/`: `Run` says what holds after each status, `Forms` what each form
+//! of words answers (`RunForm`, `CheckForm`, `DemoForm`, `AskForms`), and `Output` and `Answer` what a
+//! script does. The words, the files and the lines on standard error are those of `cohere_inputs`.
 #![tactic(auto)]
 
 mod answering;
 mod answers;
+mod ask_forms;
+mod cells_form;
 mod check_form;
 mod demo_form;
 mod fusion_queries;
@@ -28,8 +32,7 @@ mod run_form;
 mod running;
 mod status;
 mod subset_queries;
-#[cfg(test)]
-mod tests;
+mod table_form;
 
 pub use answering::{SessionFault, session};
 pub use running::run;

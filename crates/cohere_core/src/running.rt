@@ -6,12 +6,17 @@ ghost use Rattle.cohere_inputs.specs.Asked.{asked};
 ghost use Rattle.cohere_inputs.specs.Said.{AddsLine};
 ghost use Rattle.cohere_inputs.specs.Task.{IsAsked};
 ghost use Rattle.cohere_inputs.specs.Words.{texts, task_of, IfAsked};
-ghost use Rattle.cohere_core.specs.Run.{MayAnswer, OutputAfter, IfNothingIsLoaded, IsQuiet, LineAfter, ErrorLineAfter, IsStatusWithoutFaults, FirstBadIsMissing, FirstBadIsText, IsBeforeOutput};
+ghost use Rattle.cohere_core.specs.Ending.{IsEnding};
+ghost use Rattle.cohere_core.specs.Forms.{IfNothingIsLoaded};
+ghost use Rattle.cohere_core.specs.Run.{ErrorLineAfter, FirstBadIsMissing, FirstBadIsText, IfNothingIsLoadedFor, IsBeforeOutput, IsQuiet, IsStatusWithoutFaults, LineAfter, MayAnswer, OutputAfter};
 
 use crate::Status;
+use crate::ask_forms::answer_ask;
+use crate::cells_form::answer_check_cells;
 use crate::check_form::answer_check;
 use crate::demo_form::answer_demo;
 use crate::run_form::answer_run;
+use crate::table_form::answer_table;
 use cohere_inputs::{Task, say_usage, task_of};
 use scheme_io::{Sink, Store};
 use std::alloc::Global;
@@ -47,9 +52,9 @@ pub fn run<S: Store, O: Sink, E: Sink>(
     ensures error_line { IfAsked words.now (λ task.
         ErrorLineAfter task result (S.files store.old) (Rose (S.faults store.old) (S.faults store.new)) (AddsLine E.written E.faults err.old err.new)) }
 
-    // Usage comes exactly where the words fit no form. No file is loaded for such words, nor for a demonstration.
+    // Usage comes exactly where the words fit no form. No file is loaded for such words, nor for a demonstration or a table.
     ensures usage { (result ≡ Status.Usage) ↔ (task_of (texts words.now) ≡ None) }
-    ensures same_store { IfNothingIsLoaded (task_of (texts words.now)) (store.new ≡ store.old) }
+    ensures same_store { IfNothingIsLoadedFor (task_of (texts words.now)) (store.new ≡ store.old) }
     ensures same_out { IsBeforeOutput result → out.new ≡ out.old }
 
     // The other answers and their causes.
@@ -85,26 +90,20 @@ fn carry_out<S: Store, O: Sink, E: Sink>(
     visitor: &mut dyn Visitor,
 ) -> Status
     requires { IsAsked (asked task) }
-    ensures output { OutputAfter (asked task.entry) result (S.files store.old) (O.written out.old) (O.written out.new) }
+    ensures ending { IsEnding (S.files store.old) (asked task.entry) result (Rose (S.faults store.old) (S.faults store.new)) (Rose (O.faults out.old) (O.faults out.new))
+        (O.written out.old) (O.written out.new) (AddsLine E.written E.faults err.old err.new) }
     ensures quiet { IsQuiet result → err.new ≡ err.old }
-    ensures line { LineAfter result (AddsLine E.written E.faults err.old err.new) }
-    ensures error_line { ErrorLineAfter (asked task.entry) result (S.files store.old)
-        (Rose (S.faults store.old) (S.faults store.new)) (AddsLine E.written E.faults err.old err.new) }
-    ensures no_usage { result ≢ Status.Usage }
-    ensures may_answer { MayAnswer (asked task.entry) result }
     ensures same_out { IsBeforeOutput result → out.new ≡ out.old }
-    ensures bad_input { result ≡ Status.BadInput → FirstBadIsText (S.files store.old) (asked task.entry) }
-    ensures store_failed { result ≡ Status.StoreFailed
-        → Rose (S.faults store.old) (S.faults store.new) ⊎ FirstBadIsMissing (S.files store.old) (asked task.entry) }
-    ensures sink_failed { result ≡ Status.SinkFailed → Rose (O.faults out.old) (O.faults out.new) }
-    ensures complete { ¬ Rose (S.faults store.old) (S.faults store.new) → ¬ Rose (O.faults out.old) (O.faults out.new)
-        → IsStatusWithoutFaults (asked task.entry) result (S.files store.old) }
-    ensures same_store { IfNothingIsLoaded (Some (asked task.entry)) (store.new ≡ store.old) }
     ensures same_files { S.files store.new ≡ S.files store.old }
+    ensures no_usage { result ≢ Status.Usage }
+    ensures same_store { IfNothingIsLoaded (asked task.entry) (store.new ≡ store.old) }
 {
     match task {
         Task::Run(words) => answer_run(alloc, words, store, out, err, visitor),
         Task::Check(trace) => answer_check(alloc, trace, store, out, err),
         Task::Demo(number) => answer_demo(alloc, number, out, err, visitor),
+        Task::Ask(words) => answer_ask(alloc, words, store, out, err, visitor),
+        Task::CheckCells(trace) => answer_check_cells(alloc, trace, store, out, err),
+        Task::Table(words) => answer_table(alloc, words, out, err),
     }
 }

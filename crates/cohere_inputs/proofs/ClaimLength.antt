@@ -8,14 +8,14 @@ use Rattle.std.proofs.lemmas.List.Splits.{length-slice_split}
 use Rattle.std.proofs.lemmas.List.Sums.{sum_by-cons, count_by-le-length}
 use Rattle.text_lines.specs.Part.{Part, placed}
 use Rattle.text_lines.specs.Lines.{without_empty_end, without_return, lines_of}
-use Rattle.relation_text.specs.Written.{matrix_row}
 use Rattle.pair_colours.specs.Colouring.{PairColouring, points}
 use Rattle.trace_text.specs.declared.limits.TheConstants.{MOST_TRACE}
 use Rattle.trace_text.specs.declared.stage_list.Stage.{Stage}
 use Rattle.trace_text.specs.declared.stage_list.Claim.{Claim}
 use Rattle.trace_text.specs.BadLines.{line_count_of_stage, line_count}
-use Rattle.trace_text.specs.TraceText.{matrix_lines, stage_lines, step_line, trace_lines}
+use Rattle.trace_text.specs.TraceText.{stage_lines, step_line, trace_lines}
 use Rattle.trace_text.specs.ClaimTexts.{IsTraceText}
+use Rattle.text_lines.specs.Rows.{matrix_row, matrix_lines}
 
 length-matrix_lines : (C : PairColouring) → length (matrix_lines C) ≡ C.size
 length-matrix_lines C = length-map (points C.size) (matrix_row C) ∙ length-range_with_len 0 C.size

@@ -18,12 +18,15 @@ use Rattle.script_text.specs.declared.faults.ScriptWord.{ScriptWord}
 use Rattle.script_text.proofs.LawProofs.{script_has_no_fault, script_is_unique, script_or_fault}
 use Rattle.trace_text.specs.TraceFault.{trace_fault}
 use Rattle.trace_text.specs.ClaimTexts.{IsTraceText}
-use Rattle.trace_text.specs.declared.stage_list.Claim.{Claim}
 use Rattle.trace_text.specs.declared.trace_faults.TraceWord.{TraceWord}
 use Rattle.trace_text.proofs.LawProofs as traces
+use Rattle.equitable.specs.ClaimText.{IsCellText}
+use Rattle.equitable.specs.TextFault.{cell_text_fault}
+use Rattle.equitable.specs.declared.text_faults.CellWord.{CellWord}
+use Rattle.equitable.proofs.LawProofs as cells
 use Rattle.cohere_inputs.specs.declared.faults.FileFault.{FileFault}
-use Rattle.cohere_inputs.specs.declared.faults.FileFault.TheVariants.{Missing, TooLong, Relation, Script, Trace}
-use Rattle.cohere_inputs.specs.Task.{Task, Run, Check, Demo, RunWords}
+use Rattle.cohere_inputs.specs.declared.faults.FileFault.TheVariants.{Missing, TooLong, Relation, Script, Trace, CellTrace}
+use Rattle.cohere_inputs.specs.Task.{Task, Run, Check, Demo, Ask, CheckCells, Table, RunWords}
 use Rattle.cohere_inputs.specs.Kind.{Kind, limit_of}
 use Rattle.cohere_inputs.specs.Kind as kinds
 use Rattle.cohere_inputs.specs.Needs.{Need, named_files, relation_need, script_need, product_needs}
@@ -40,6 +43,7 @@ text_has_no_fault : (kind : Kind) (bytes : List ℕ) (fault : FileFault) → IsT
 text_has_no_fault (kinds.Relation line) bytes (Relation what at) good bad = none-some (what, at) (sym (reading_has_no_fault bytes line good.0 good.1) ∙ bad)
 text_has_no_fault kinds.Script bytes (Script line what) good bad = none-some (line, what) (sym (script_has_no_fault bytes good.0 good.1) ∙ bad)
 text_has_no_fault kinds.Trace bytes (Trace line what) good bad = none-some (line, what) (sym (traces.reading_has_no_fault bytes good.0 good.1) ∙ bad)
+text_has_no_fault kinds.CellTrace bytes (CellTrace line what) good bad = none-some (line, what) (sym (cells.reading_has_no_fault bytes good.0 good.1) ∙ bad)
 text_has_no_fault _ bytes _ good bad = absurd bad
 
 -- and no text has two
@@ -56,37 +60,38 @@ text_fault_is_unique kinds.Trace bytes (Trace line what) (Trace number word) a b
     let parts = some_pair_parts line number what word (sym a ∙ b) in
     ap (λ n. Trace n what) parts.0 ∙ ap (Trace number) parts.1
 text_fault_is_unique kinds.Trace bytes (Trace line what) _ a b = absurd b
+text_fault_is_unique kinds.CellTrace bytes (CellTrace line what) (CellTrace number word) a b =
+    let parts = some_pair_parts line number what word (sym a ∙ b) in
+    ap (λ n. CellTrace n what) parts.0 ∙ ap (CellTrace number) parts.1
+text_fault_is_unique kinds.CellTrace bytes (CellTrace line what) _ a b = absurd b
 text_fault_is_unique _ bytes _ _ a b = absurd a
 
 -- a text is what it must be, or has a fault
-relation_or_fault : (bytes : List ℕ) (line : ℕ) (o : Option (RelationWord × ℕ)) → relation_fault bytes line ≡ o
-    → MatchOption o ((C : PairColouring) × IsRelationText bytes line C) (λ _. (C : PairColouring) → ¬ IsRelationText bytes line C)
-    → IsText (kinds.Relation line) bytes ⊎ ((fault : FileFault) × IsTextFault (kinds.Relation line) bytes fault)
-relation_or_fault bytes line None e read = inl read
-relation_or_fault bytes line (Some (what, at)) e read = inr (Relation what at, e)
+read_or_fault : {F R : Type 0} (Reads : R → Type 0) (Faulty : FileFault → Type 0) (o : Option F) → MatchOption o ((r : R) × Reads r) (λ _. (r : R) → ¬ Reads r)
+    → ((f : F) → o ≡ Some f → (fault : FileFault) × Faulty fault) → ((r : R) × Reads r) ⊎ ((fault : FileFault) × Faulty fault)
+read_or_fault Reads Faulty None read bad = inl read
+read_or_fault Reads Faulty (Some f) read bad = inr (bad f refl)
 
 script_fault_of : (bytes : List ℕ) (o : Option (ℕ × ScriptWord)) → script_fault bytes ≡ o → IsSome o → (fault : FileFault) × IsTextFault kinds.Script bytes fault
 script_fault_of bytes None e some = absurd cc
 script_fault_of bytes (Some (line, what)) e some = (Script line what, e)
 
-trace_or_fault : (bytes : List ℕ) (o : Option (ℕ × TraceWord)) → trace_fault bytes ≡ o
-    → MatchOption o ((claim : Claim) × IsTraceText bytes claim) (λ _. (claim : Claim) → ¬ IsTraceText bytes claim)
-    → IsText kinds.Trace bytes ⊎ ((fault : FileFault) × IsTextFault kinds.Trace bytes fault)
-trace_or_fault bytes None e read = inl read
-trace_or_fault bytes (Some (line, what)) e read = inr (Trace line what, e)
-
 -- a line of a relation counts from 1
 abbrev IsCounted : Kind → Type 0
 IsCounted (kinds.Relation line) = 1 ≤ line
-IsCounted kinds.Script = ⊤
-IsCounted kinds.Trace = ⊤
+IsCounted _ = ⊤
 
 text_or_fault : (kind : Kind) (bytes : List ℕ) → IsCounted kind → IsText kind bytes ⊎ ((fault : FileFault) × IsTextFault kind bytes fault)
-text_or_fault (kinds.Relation line) bytes counted = relation_or_fault bytes line (relation_fault bytes line) refl (reads_or_fails bytes line counted)
+text_or_fault (kinds.Relation line) bytes counted =
+    read_or_fault (IsRelationText bytes line) (IsTextFault (kinds.Relation line) bytes) (relation_fault bytes line) (reads_or_fails bytes line counted)
+    (λ (f : RelationWord × ℕ) e. (Relation f.0 f.1, e))
 text_or_fault kinds.Script bytes counted =
     ⊎_elim (λ (read : (lines : List Line) × IsScript bytes lines). inl read)
     (λ some. inr (script_fault_of bytes (script_fault bytes) refl some)) (script_or_fault bytes)
-text_or_fault kinds.Trace bytes counted = trace_or_fault bytes (trace_fault bytes) refl (traces.trace_reads_or_fails bytes)
+text_or_fault kinds.Trace bytes counted =
+    read_or_fault (IsTraceText bytes) (IsTextFault kinds.Trace bytes) (trace_fault bytes) (traces.trace_reads_or_fails bytes) (λ (f : ℕ × TraceWord) e. (Trace f.0 f.1, e))
+text_or_fault kinds.CellTrace bytes counted =
+    read_or_fault (IsCellText bytes) (IsTextFault kinds.CellTrace bytes) (cell_text_fault bytes) (cells.cell_text_reads_or_fails bytes) (λ (f : ℕ × CellWord) e. (CellTrace f.0 f.1, e))
 
 -- ---- one file
 
@@ -99,11 +104,13 @@ no_text_missing : (kind : Kind) (bytes : List ℕ) → IsTextFault kind bytes Mi
 no_text_missing (kinds.Relation line) bytes bad = bad
 no_text_missing kinds.Script bytes bad = bad
 no_text_missing kinds.Trace bytes bad = bad
+no_text_missing kinds.CellTrace bytes bad = bad
 
 no_text_too_long : (kind : Kind) (bytes : List ℕ) → IsTextFault kind bytes TooLong → ⊥
 no_text_too_long (kinds.Relation line) bytes bad = bad
 no_text_too_long kinds.Script bytes bad = bad
 no_text_too_long kinds.Trace bytes bad = bad
+no_text_too_long kinds.CellTrace bytes bad = bad
 
 -- a fault of a text is that of its file
 text_fault-file : (files : Files) (need : Need) (bytes : List ℕ) (fault : FileFault) → HoldsWithin files need bytes → IsTextFault need.kind bytes fault → IsFault files need fault
@@ -212,6 +219,9 @@ one_loading : (files : Files) (task : Task) (needs other : List Need) → AreLoa
 one_loading files (Run run) needs other a b = a.2 ∙ ap (λ products. named_files (Run run) ++ products) (one_products files run a.0 b.0 a.1 b.1) ∙ sym b.2
 one_loading files (Check trace) needs other a b = a ∙ sym b
 one_loading files (Demo number) needs other a b = a ∙ sym b
+one_loading files (Ask words) needs other a b = a ∙ sym b
+one_loading files (CheckCells trace) needs other a b = a ∙ sym b
+one_loading files (Table words) needs other a b = a ∙ sym b
 
 -- a product is read at a line
 names_counted : (names : List (List ℕ)) → AllByRecursion (λ need. IsCounted need.kind) (map (λ name. relation_need name 1) names)
@@ -237,6 +247,9 @@ none_or_first_bad files (Run run) asked =
     of_loaded files (Run run) (named_files (Run run) ++ products.0) (products.0, products.1, refl) (asked, (tt, products_counted files run products.0 products.1))
 none_or_first_bad files (Check trace) asked = of_loaded files (Check trace) (named_files (Check trace)) refl (tt, tt)
 none_or_first_bad files (Demo number) asked = of_loaded files (Demo number) (named_files (Demo number)) refl tt
+none_or_first_bad files (Ask words) asked = of_loaded files (Ask words) (named_files (Ask words)) refl (omega arith, tt)
+none_or_first_bad files (CheckCells trace) asked = of_loaded files (CheckCells trace) (named_files (CheckCells trace)) refl (tt, tt)
+none_or_first_bad files (Table words) asked = of_loaded files (Table words) (named_files (Table words)) refl tt
 
 pub none_is_first : NoneIsFirst
 none_is_first files task need fault good bad =

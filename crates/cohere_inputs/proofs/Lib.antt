@@ -1,7 +1,10 @@
+mod WordNumbers
+mod TableNumbers
 mod Pieces
 mod ReadFiles
 mod ClaimLength
 mod TraceFiles
+mod CellFiles
 mod ProductFiles
 mod FirstBad
 mod RunFiles

@@ -9,11 +9,13 @@ use Rattle.script_text.specs.Script.{IsScript}
 use Rattle.script_text.specs.declared.acts.Line.{Line}
 use Rattle.trace_text.specs.declared.stage_list.Claim.{Claim}
 use Rattle.trace_text.specs.ClaimTexts.{IsTraceText}
+use Rattle.equitable.specs.declared.cell_claims.CellClaim.{CellClaim}
+use Rattle.equitable.specs.ClaimText.{IsCellText}
 use Rattle.cohere_inputs.specs.declared.faults.FileFault.{FileFault}
 use Rattle.cohere_inputs.specs.declared.faults.FileFault.TheVariants.{Missing, TooLong}
-use Rattle.cohere_inputs.specs.Task.{Task, Run, Check, Demo, RunWords}
+use Rattle.cohere_inputs.specs.Task.{Task, Run, RunWords}
 use Rattle.cohere_inputs.specs.Kind.{limit_of}
-use Rattle.cohere_inputs.specs.Needs.{Need, named_files, product_needs, relation_need, script_need, trace_need}
+use Rattle.cohere_inputs.specs.Needs.{Need, named_files, product_needs, relation_need, script_need, trace_need, cell_trace_need}
 use Rattle.cohere_inputs.specs.Products.{products_of}
 use Rattle.cohere_inputs.specs.Texts.{IsText, IsTextFault}
 
@@ -56,6 +58,12 @@ pub record IsTraceFile (files : Files) (name : List ℕ) (claim : Claim) : Type 
   pub file : HoldsWithin files (trace_need name) bytes
   pub reads : IsTraceText bytes claim
 
+-- the file is a trace of this claim of cells
+pub record IsCellTraceFile (files : Files) (name : List ℕ) (claim : CellClaim) : Type 0 where
+  pub bytes : List ℕ
+  pub file : HoldsWithin files (cell_trace_need name) bytes
+  pub reads : IsCellText bytes claim
+
 -- the files of the products of these lines hold these relations, one for each product line, in order
 abbrev pub AreProductsOf : Files → List Line → List PairColouring → Type 0
 AreProductsOf files lines products = AllZip (λ name C. IsRelationFile files name 1 C) (products_of lines) products
@@ -69,8 +77,7 @@ AreProductNeeds files run needs =
 -- the files that are loaded for the task, in order: those that the words name, and then, for a run, those that its script names
 abbrev pub AreLoaded : Files → Task → List Need → Type 0
 AreLoaded files (Run run) needs = (products : List Need) × AreProductNeeds files run products × (needs ≡ named_files (Run run) ++ products)
-AreLoaded files (Check trace) needs = needs ≡ named_files (Check trace)
-AreLoaded files (Demo number) needs = needs ≡ named_files (Demo number)
+AreLoaded files task needs = needs ≡ named_files task
 
 -- no file of the list before this one is bad
 abbrev pub IsReachedIn : Files → List Need → Need → Type 0

@@ -1,7 +1,10 @@
 pub mod Task
+pub mod NumberWords
 pub mod RunForm
 pub mod CheckForm
 pub mod DemoForm
+pub mod AskForms
+pub mod TableForm
 pub mod Words
 pub mod Asked
 pub mod Products

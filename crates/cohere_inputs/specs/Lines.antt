@@ -1,15 +1,19 @@
 -- The lines on standard error.
 use Rattle.std.specs.Prelude.{ℕ, List, ◌++◌, codes, decimal}
 use Rattle.cohere_inputs.specs.declared.faults.FileFault.{FileFault}
-use Rattle.cohere_inputs.specs.declared.faults.FileFault.TheVariants.{Missing, TooLong, Relation, Script, Trace}
+use Rattle.cohere_inputs.specs.declared.faults.FileFault.TheVariants.{Missing, TooLong, Relation, Script, Trace, CellTrace}
 use Rattle.cohere_inputs.specs.declared.faults.Unread.{Unread}
 use Rattle.cohere_inputs.specs.declared.faults.Unread.TheVariants.{Bad, StoreFailed, NoMemory}
 use Rattle.relation_text.specs.RelationWord.{relation_word}
 use Rattle.script_text.specs.ScriptWord.{script_word}
 use Rattle.trace_text.specs.TraceWord.{trace_word}
+use Rattle.equitable.specs.TextWord.{text_word}
 
 abbrev pub usage_line : List ℕ
-usage_line = codes "usage: cohere run RELATION SCRIPT [LINE] | cohere check TRACE | cohere demo NUMBER\n"
+usage_line =
+    codes "usage: cohere run RELATION SCRIPT [LINE] | cohere check TRACE | cohere demo NUMBER"
+    ++ codes " | cohere ring TABLE COLOUR... | cohere cells RELATION COLOUR... | cohere check-cells TRACE"
+    ++ codes " | cohere table D NUMBER... | cohere lattice RELATION [I J]\n"
 
 abbrev pub memory_line : List ℕ
 memory_line = codes "cohere: out of memory\n"
@@ -34,6 +38,7 @@ fault_line name TooLong = too_long_line name
 fault_line name (Relation what at) = place_line name (relation_word what) at
 fault_line name (Script line what) = numbered_line name line (script_word what)
 fault_line name (Trace line what) = numbered_line name line (trace_word what)
+fault_line name (CellTrace line what) = numbered_line name line (text_word what)
 
 -- what is said of a file that was not read
 abbrev pub halt_line : List ℕ → Unread → List ℕ

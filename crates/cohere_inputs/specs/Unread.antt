@@ -13,10 +13,12 @@ use Rattle.script_text.specs.declared.acts.Line.{Line}
 use Rattle.script_text.specs.declared.limits.TheConstants.{MOST_SCRIPT}
 use Rattle.trace_text.specs.declared.trace_faults.TraceFault.{TraceFault}
 use Rattle.trace_text.specs.declared.trace_faults.TraceFault.TheVariants as traces
-use Rattle.cohere_inputs.specs.declared.faults.FileFault.TheVariants.{Missing, TooLong, Relation, Script, Trace}
+use Rattle.equitable.specs.declared.text_faults.CellTextFault.{CellTextFault}
+use Rattle.equitable.specs.declared.text_faults.CellTextFault.TheVariants as cells
+use Rattle.cohere_inputs.specs.declared.faults.FileFault.TheVariants.{Missing, TooLong, Relation, Script, Trace, CellTrace}
 use Rattle.cohere_inputs.specs.declared.faults.Unread.{Unread}
 use Rattle.cohere_inputs.specs.declared.faults.Unread.TheVariants.{Bad, StoreFailed, NoMemory}
-use Rattle.cohere_inputs.specs.Task.{Task, Run, Check, Demo}
+use Rattle.cohere_inputs.specs.Task.{Task, Run}
 use Rattle.cohere_inputs.specs.Kind.{Kind}
 use Rattle.cohere_inputs.specs.Needs.{Need, named_files, product_needs}
 use Rattle.cohere_inputs.specs.Texts.{CanBe}
@@ -44,6 +46,11 @@ unread_script scripts.NoMemory = NoMemory
 abbrev pub unread_trace : TraceFault → Unread
 unread_trace (traces.Text line what) = Bad (Trace line what)
 unread_trace traces.NoMemory = NoMemory
+
+-- what a fault of reading says of a trace of cells
+abbrev pub unread_cells : CellTextFault → Unread
+unread_cells (cells.Text line what) = Bad (CellTrace line what)
+unread_cells cells.NoMemory = NoMemory
 
 -- why a file was not read, where rose says that the count of the store's faults rose: where the files are told, it is bad for this reason,
 -- and only where they are told is it not there; or the count rose; or memory is wanting
@@ -76,8 +83,7 @@ IsProductOfSomeScript need = (lines : List Line) × IsSomeScript lines × Contai
 -- the file can be loaded for the task: the words name it, or a script could
 abbrev pub CanBeLoaded : Task → Need → Type 0
 CanBeLoaded (Run run) need = Contains (named_files (Run run)) need ⊎ IsProductOfSomeScript need
-CanBeLoaded (Check trace) need = Contains (named_files (Check trace)) need
-CanBeLoaded (Demo number) need = Contains (named_files (Demo number)) need
+CanBeLoaded task need = Contains (named_files task) need
 
 -- loading came to this file: it can be loaded for the task, and where the files are told, it is, and none that is loaded before it is bad
 abbrev pub ComesTo : Option Files → Task → Need → Type 0

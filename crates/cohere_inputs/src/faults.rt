@@ -1,5 +1,6 @@
 //! Why a file is not read.
 
+use equitable::{CellTextFault, CellWord};
 use relation_text::{RelationFault, RelationWord};
 use scheme_io::LoadFault;
 use script_text::{ScriptFault, ScriptWord};
@@ -19,6 +20,8 @@ pub enum FileFault {
     Script { line: u32, what: ScriptWord },
     /// Its text is no trace: what was expected on this line, counted from 1.
     Trace { line: u32, what: TraceWord },
+    /// Its text is no trace of cells: what was expected on this line, counted from 1.
+    CellTrace { line: u32, what: CellWord },
 }
 
 /// Why a file was not read.
@@ -106,6 +109,20 @@ impl From<TraceFault> for Unread {
         match fault {
             TraceFault::Text { line, what } => Unread::Bad(FileFault::Trace { line, what }),
             TraceFault::NoMemory => Unread::NoMemory,
+        }
+    }
+}
+
+impl From<CellTextFault> for Unread {
+    ghost use Rattle.std.specs.Prelude.{◌≡◌};
+    ghost use Rattle.cohere_inputs.specs.Unread.{unread_cells};
+
+    ghost from_gives = { λ fault why. why ≡ unread_cells fault };
+
+    fn from(fault: CellTextFault) -> Unread {
+        match fault {
+            CellTextFault::Text { line, what } => Unread::Bad(FileFault::CellTrace { line, what }),
+            CellTextFault::NoMemory => Unread::NoMemory,
         }
     }
 }

@@ -1,16 +1,18 @@
-//! A file that holds a relation, a script or a trace.
+//! A file that holds a relation, a script, a trace or a trace of cells.
 
 ghost use Rattle.std.specs.Prelude.{◌≡◌, ◌^◌, ◌<◌, ◌≤◌, length, All, IfOk, IfErr, IfSome};
 ghost use Rattle.scheme_io.specs.Count.{Rose};
 ghost use Rattle.pair_colours.specs.Colouring.{IsRawColouring};
 ghost use Rattle.script_text.specs.Script.{KeepsLimit};
 ghost use Rattle.trace_text.specs.BadLines.{line_count};
-ghost use Rattle.cohere_inputs.specs.Bad.{IsRelationFile, IsScriptFile, IsTraceFile};
+ghost use Rattle.equitable.specs.BadLines as cells;
+ghost use Rattle.cohere_inputs.specs.Bad.{IsCellTraceFile, IsRelationFile, IsScriptFile, IsTraceFile};
 ghost use Rattle.cohere_inputs.specs.Kind as kinds;
-ghost use Rattle.cohere_inputs.specs.Needs.{relation_need, script_need, trace_need};
+ghost use Rattle.cohere_inputs.specs.Needs.{cell_trace_need, relation_need, script_need, trace_need};
 ghost use Rattle.cohere_inputs.specs.Unread.{IsCause, IsUnreadAs, IsSomeScript};
 
 use crate::faults::Unread;
+use equitable::{CellClaim, MOST_CELL_TEXT, read_cells};
 use pair_colours::Colouring;
 use relation_text::{MOST_RELATION, read_relation};
 use scheme_io::{Store, load};
@@ -70,4 +72,22 @@ pub(crate) fn claim_in<S: Store>(alloc: Global, store: &mut S, name: &str) -> Re
 {
     let bytes = load(alloc, store, name, MOST_TRACE)?;
     Ok(read_trace(alloc, &bytes)?)
+}
+
+/// Loads the file of a trace of cells, and reads it.
+pub(crate) fn cell_claim_in<S: Store>(
+    alloc: Global,
+    store: &mut S,
+    name: &str,
+) -> Result<CellClaim, Unread>
+    ensures same_files { S.files store.new ≡ S.files store.old }
+    ensures later { S.faults store.old ≤ S.faults store.new }
+    ensures lines { IfOk result (λ claim. cells.line_count claim < 2 ^ 32) }
+    ensures read { IfOk result (λ claim. IfSome (S.files store.old) (λ files. IsCellTraceFile files name.now claim)) }
+    ensures cause { IfErr result (λ why.
+        IsCause (S.files store.old) (cell_trace_need name.now) why (Rose (S.faults store.old) (S.faults store.new))) }
+    ensures form { IfErr result (IsUnreadAs kinds.CellTrace) }
+{
+    let bytes = load(alloc, store, name, MOST_CELL_TEXT)?;
+    Ok(read_cells(alloc, &bytes)?)
 }

@@ -25,7 +25,11 @@ pub fn say_usage<E: Sink>(err: &mut E)
 {
     say(
         err,
-        &[b"usage: cohere run RELATION SCRIPT [LINE] | cohere check TRACE | cohere demo NUMBER\n"],
+        &[
+            b"usage: cohere run RELATION SCRIPT [LINE] | cohere check TRACE | cohere demo NUMBER",
+            b" | cohere ring TABLE COLOUR... | cohere cells RELATION COLOUR... | cohere check-cells TRACE",
+            b" | cohere table D NUMBER... | cohere lattice RELATION [I J]\n",
+        ],
     );
 }
 
@@ -95,6 +99,9 @@ fn say_fault<E: Sink>(err: &mut E, name: &str, fault: FileFault)
         FileFault::Relation { what, at } => say_place(err, name, what.as_str().as_bytes(), at),
         FileFault::Script { line, what } => say_line(err, name, line, what.as_str().as_bytes()),
         FileFault::Trace { line, what } => say_line(err, name, line, what.as_str().as_bytes()),
+        FileFault::CellTrace { line, what } => {
+            say_line(err, name, line, what.as_str().as_bytes());
+        }
     }
 }
 

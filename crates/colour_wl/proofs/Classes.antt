@@ -27,6 +27,6 @@ pair_of_class-is K k p e = ap (λ o. unwrap_or o (0, 0)) e
 pub name_of_colour : (K : PairColouring) → IsConfiguration K → (c : ℕ) → IsColour K c → name_of K c ≡ c
 name_of_colour K h c u =
     ap (name_of K) (sym u.is)
-    ∙ sym (colour_at-named_of K h.fits.colouring u.x u.y u.row u.column)
+    ∙ sym (colour_at-named_of K h.colouring u.x u.y u.row u.column)
     ∙ ap (λ (A : PairColouring). colour_at A u.x u.y) h.named
     ∙ u.is

@@ -45,13 +45,13 @@ pub growth_low : (n : ℕ) (a : List ℕ) → IsGrowth n a → (i : ℕ) → i <
 growth_low n a g i l = omega (arith, g.grows i l, next_low n a g i (omega (arith, l)))
 
 -- a merged colouring is one that the program could keep
-pub FitsColouring-merge : (K : PairColouring) → IsConfiguration K → (a : List ℕ) → IsGrowth (rank_of K) a → FitsColouring (merge K a)
-FitsColouring-merge K h a g = record {
-  colouring = IsColouring-merge K h.fits.colouring a;
-  limit = h.fits.limit;
+pub FitsColouring-merge : (K : PairColouring) → FitsColouring K → IsConfiguration K → (a : List ℕ) → IsGrowth (rank_of K) a → FitsColouring (merge K a)
+FitsColouring-merge K f h a g = record {
+  colouring = IsColouring-merge K h.colouring a;
+  limit = f.limit;
   numbers = All-from_recursion (λ c. c < 2 ^ 32) (map (slice_index a) K.colours)
       (Each-map (λ c. c < 2 ^ 32) (slice_index a) K.colours
-      (each_small K.colours (Each-colours K h.fits.colouring) (recursion h.fits.numbers)));
+      (each_small K.colours (Each-colours K h.colouring) (recursion f.numbers)));
 }
   where
     recursion : All (λ c. c < 2 ^ 32) K.colours → AllByRecursion (λ c. c < 2 ^ 32) K.colours
@@ -72,8 +72,8 @@ signature_made K h a k t flag own turned pair codes sorted out l first trans f o
     let y : ℕ = (pair_of_class K k).1 in
     let same : pair_of_class K k ≡ pair = pair_of_class-is K k pair first in
     let flag_at : flag ≡ (if x == y then 1 else 0) = f ∙ flag_is (pair.0 == pair.1) ∙ ap (λ (z : ℕ × ℕ). if z.0 == z.1 then 1 else 0) (sym same) in
-    let own_at : own ≡ colour_at (merge K a) x y = o ∙ ap (slice_index a) (sym c.colour) ∙ sym (colour_at-merge K h.fits.colouring a x y c.row c.column) in
-    let turned_at : turned ≡ colour_at (merge K a) y x = u ∙ ap (slice_index a) (sym trans) ∙ sym (colour_at-merge K h.fits.colouring a y x c.column c.row) in
+    let own_at : own ≡ colour_at (merge K a) x y = o ∙ ap (slice_index a) (sym c.colour) ∙ sym (colour_at-merge K h.colouring a x y c.row c.column) in
+    let turned_at : turned ≡ colour_at (merge K a) y x = u ∙ ap (slice_index a) (sym trans) ∙ sym (colour_at-merge K h.colouring a y x c.column c.row) in
     record {
       sides = sorted;
       rising = IsNonDecreasingBy-from_sort (λ n. n) sorted up;
@@ -96,19 +96,19 @@ class_signature K a k = signature_of (merge K a) (pair_of_class K k).0 (pair_of_
 pub signature_of-class : (K : PairColouring) → IsConfiguration K → (a : List ℕ) (x y : ℕ) → x < K.size → y < K.size → signature_of (merge K a) x y ≡ class_signature K a (colour_at K x y)
 signature_of-class K h a x y hx hy =
     let p = pair_of_class-holds K h (colour_at K x y) (colour_at-below K h x y hx hy) in
-    signature_of-alike (merge K a) x y _ _ (alike_in K (merge K a) h.fits.colouring h.coherent (refines-merge K h.fits.colouring a) x y _ _ hx hy p.row p.column (sym p.colour))
+    signature_of-alike (merge K a) x y _ _ (alike_in K (merge K a) h.colouring h.coherent (refines-merge K h.colouring a) x y _ _ hx hy p.row p.column (sym p.colour))
 
 -- all classes numbered are a round of the merged colouring
-pub IsRound-numbered_classes : (K : PairColouring) → IsConfiguration K → (a : List ℕ) → IsGrowth (rank_of K) a → (keys : Keys) (next : List ℕ)
+pub IsRound-numbered_classes : (K : PairColouring) → FitsColouring K → IsConfiguration K → (a : List ℕ) → IsGrowth (rank_of K) a → (keys : Keys) (next : List ℕ)
     → IsNumberedTo is_key (class_signature K a) keys next (rank_of K) → IsRound (merge K a) (merge K next)
-IsRound-numbered_classes K h a g keys next d = record {
-  colouring = IsColouring-merge K h.fits.colouring next;
+IsRound-numbered_classes K f h a g keys next d = record {
+  colouring = IsColouring-merge K h.colouring next;
   sizes = refl;
   apart = λ x y u v hx hy hu hv q.
       let s = shared_key is_key (class_signature K a) keys next (rank_of K) d (colour_at K x y) (colour_at K u v) (colour_at-below K h x y hx hy) (colour_at-below K h u v hu hv)
       (sym (at x y hx hy) ∙ q ∙ at u v hu hv) in
       let key : class_signature K a (colour_at K x y) ≡ class_signature K a (colour_at K u v) = (bytes_eq-Decides _ s.0.items).0 s.1 ∙ sym ((bytes_eq-Decides _ s.0.items).0 s.2) in
-      Alike-from_signature (merge K a) (FitsColouring-merge K h a g) x y u v hy hv (signature_of-class K h a x y hx hy ∙ key ∙ sym (signature_of-class K h a u v hu hv));
+      Alike-from_signature (merge K a) (FitsColouring-merge K f h a g) x y u v hy hv (signature_of-class K h a x y hx hy ∙ key ∙ sym (signature_of-class K h a u v hu hv));
   together = λ x y u v hx hy hu hv q.
       at x y hx hy
       ∙ same_number is_key (class_signature K a) keys next (rank_of K) d (colour_at K x y) (colour_at K u v) (colour_at-below K h x y hx hy) (colour_at-below K h u v hu hv)
@@ -117,7 +117,7 @@ IsRound-numbered_classes K h a g keys next d = record {
 }
   where
     at : (x y : ℕ) → x < K.size → y < K.size → colour_at (merge K next) x y ≡ slice_index next (colour_at K x y)
-    at x y hx hy = colour_at-merge K h.fits.colouring next x y hx hy
+    at x y hx hy = colour_at-merge K h.colouring next x y hx hy
 
 -- a round that gives the same string finds the merged colouring coherent, and no other does
 pub coherent_from_same : (K : PairColouring) (a next : List ℕ) → IsRound (merge K a) (merge K next) → next ≡ a → Coherent (merge K a)
@@ -131,11 +131,11 @@ coherent_from_same K a next r e = record {
     still x y u v hx hy hu hv q = subst (λ s. colour_at (merge K s) x y ≡ colour_at (merge K s) u v) (sym e) q
 
 -- which pairs of places have one number in two strings, from what the merged colourings refine
-strings_refine : (K : PairColouring) → IsConfiguration K → (a b : List ℕ) → Refines (merge K a) (merge K b) → (i j : ℕ) → i < rank_of K → j < rank_of K → slice_index a i ≡ slice_index a j → slice_index b i ≡ slice_index b j
+pub strings_refine : (K : PairColouring) → IsConfiguration K → (a b : List ℕ) → Refines (merge K a) (merge K b) → (i j : ℕ) → i < rank_of K → j < rank_of K → slice_index a i ≡ slice_index a j → slice_index b i ≡ slice_index b j
 strings_refine K h a b r i j li lj e =
     let p = pair_of_class-holds K h i li in
     let q = pair_of_class-holds K h j lj in
-    let at : (s : List ℕ) (x y : ℕ) → x < K.size → y < K.size → colour_at (merge K s) x y ≡ slice_index s (colour_at K x y) = colour_at-merge K h.fits.colouring in
+    let at : (s : List ℕ) (x y : ℕ) → x < K.size → y < K.size → colour_at (merge K s) x y ≡ slice_index s (colour_at K x y) = colour_at-merge K h.colouring in
     ap (slice_index b) (sym p.colour)
     ∙ sym (at b _ _ p.row p.column)
     ∙ r.classes _ _ _ _ p.row p.column q.row q.column (at a _ _ p.row p.column ∙ ap (slice_index a) p.colour ∙ e ∙ ap (slice_index a) (sym q.colour) ∙ sym (at a _ _ q.row q.column))
@@ -148,7 +148,7 @@ same_from_refines K h a b g k r s = same_strings (rank_of K) a b g k (strings_re
 -- a forced round of a coherent merged colouring gives the same string
 pub same_from_coherent : (K : PairColouring) → IsConfiguration K → (a next : List ℕ) → IsGrowth (rank_of K) a → IsGrowth (rank_of K) next → IsForcedRound (merge K a) (merge K next) → Coherent (merge K a) → next ≡ a
 same_from_coherent K h a next g k r c =
-    same_from_refines K h next a k g r.refines (refines_forced (merge K a) (merge K next) (IsColouring-merge K h.fits.colouring a) c r)
+    same_from_refines K h next a k g r.refines (refines_forced (merge K a) (merge K next) (IsColouring-merge K h.colouring a) c r)
 
 -- a forced round that gives another string leaves fewer pairs of places of one colour
 pub fewer_alike : (K : PairColouring) → IsConfiguration K → (a next : List ℕ) → IsGrowth (rank_of K) a → IsGrowth (rank_of K) next → IsForcedRound (merge K a) (merge K next) → (next ≡ a → ⊥) → alike_places (merge K next) < alike_places (merge K a)
@@ -170,4 +170,4 @@ fusion_answer K a None true h g k r ne c e = (λ t. c, λ m. refl)
 fusion_answer K a None false h g k r ne c e = cc
 
 pub on_the_way-merge : (K : PairColouring) → IsConfiguration K → (a b : List ℕ) → b ≡ a → IsOnTheWay (merge K a) (merge K b)
-on_the_way-merge K h a b e = subst (λ s. IsOnTheWay (merge K a) (merge K s)) (sym e) (on_the_way-start (merge K a) (IsColouring-merge K h.fits.colouring a))
+on_the_way-merge K h a b e = subst (λ s. IsOnTheWay (merge K a) (merge K s)) (sym e) (on_the_way-start (merge K a) (IsColouring-merge K h.colouring a))

@@ -9,12 +9,11 @@ use Rattle.std.proofs.lemmas.List.Elements.{recursion_from_All}
 use Rattle.std.proofs.lemmas.List.Sums.{sum_by-cons, sum_by-append}
 use Rattle.pair_colours.specs.Colouring.{PairColouring, colour_at, points, triangles}
 use Rattle.pair_colours.specs.SideCodes.{code_of_pair, side_code, side_codes}
-use Rattle.pair_colours.proofs.Counts.{unit_of, count_by-cons, count_by-map, count_by_points, IsPermutation-from_counts, sum_by_add, sum_by_points_agree}
+use Rattle.pair_colours.proofs.Counts.{unit_of, count_by-cons, count_by-map, count_by_points, IsPermutation-from_counts, sum_by_add, sum_by_points_agree, counted}
 use Rattle.pair_colours.proofs.Measure.{sum_by_points_more}
 use Rattle.triangle_count.specs.declared.rows.Entry.{Entry}
 use Rattle.triangle_count.specs.Row.{Precedes, IsRowAt}
 use Rattle.struct_consts.specs.ClassData.{IsConfiguration}
-use Rattle.struct_consts.proofs.Sums.{counted}
 use Rattle.colour_wl.specs.Fusions.{merge}
 use Rattle.pair_colours.proofs.SortedLists.{In, In_from_Contains, Ordered, Ordered_from_pairs, each_in}
 use Rattle.colour_wl.proofs.Sums.{sum_by_agree, sum_by_zero, sum_by_times_right}
@@ -117,7 +116,7 @@ IsPermutation-expanded K h a x y hx hy entries r =
     (λ w.
     count_by-map (λ c. w == c) (side_code (merge K a) x y) (points K.size)
     ∙ count_by_points (λ z. w == side_code (merge K a) x y z) (λ z. w == code_of_pair (slice_index a (colour_at K x z)) (slice_index a (colour_at K z y))) K.size
-    (λ z hz i. w == code_of_pair (colour_at-merge K h.fits.colouring a x z hx hz i) (colour_at-merge K h.fits.colouring a z y hz hy i))
+    (λ z hz i. w == code_of_pair (colour_at-merge K h.colouring a x z hx hz i) (colour_at-merge K h.colouring a z y hz hy i))
     ∙ row_sum K x y entries r (λ i j. w == code_of_pair (slice_index a i) (slice_index a j))
     ∙ sym (count_by-expanded (λ c. w == c) a entries))
 

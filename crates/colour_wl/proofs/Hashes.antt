@@ -68,12 +68,12 @@ class_key K a k = pair_key (merge K a) (pair_of_class K k).0 (pair_of_class K k)
 pair_key-class : (K : PairColouring) → IsConfiguration K → (a : List ℕ) (x y : ℕ) → x < K.size → y < K.size → pair_key (merge K a) x y ≡ class_key K a (colour_at K x y)
 pair_key-class K h a x y hx hy =
     let p = pair_of_class-holds K h (colour_at K x y) (colour_at-below K h x y hx hy) in
-    pair_key-alike (merge K a) x y _ _ (alike_in K (merge K a) h.fits.colouring h.coherent (refines-merge K h.fits.colouring a) x y _ _ hx hy p.row p.column (sym p.colour))
+    pair_key-alike (merge K a) x y _ _ (alike_in K (merge K a) h.colouring h.coherent (refines-merge K h.colouring a) x y _ _ hx hy p.row p.column (sym p.colour))
 
 -- all classes numbered by their keys are a forced round
 pub IsForcedRound-numbered : (K : PairColouring) → IsConfiguration K → (a keys next : List ℕ) → IsNumberedTo nat_eq (class_key K a) keys next (rank_of K) → IsForcedRound (merge K a) (merge K next)
 IsForcedRound-numbered K h a keys next d = record {
-  colouring = IsColouring-merge K h.fits.colouring next;
+  colouring = IsColouring-merge K h.colouring next;
   sizes = refl;
   refines = record {
     sizes = refl;
@@ -91,4 +91,4 @@ IsForcedRound-numbered K h a keys next d = record {
 }
   where
     at : (x y : ℕ) → x < K.size → y < K.size → colour_at (merge K next) x y ≡ slice_index next (colour_at K x y)
-    at x y hx hy = colour_at-merge K h.fits.colouring next x y hx hy
+    at x y hx hy = colour_at-merge K h.colouring next x y hx hy

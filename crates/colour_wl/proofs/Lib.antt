@@ -3,7 +3,6 @@ pub mod Members
 pub mod Growth
 pub mod Sums
 pub mod Merged
-pub mod Literals
 pub mod Existing
 pub mod Resumed
 mod Expanded
@@ -11,7 +10,9 @@ mod Sorting
 mod Codes
 mod ForcedRounds
 pub mod SameStrings
-mod Numbered
+pub mod Numbered
 pub mod ColourRounds
 mod Hashes
-mod NamedMerges
+pub mod NamedMerges
+pub mod StringsOf
+pub mod Coarser

@@ -40,7 +40,7 @@ triangles-merge K h a len x y u v hx hy =
     let left : (z : ℕ) → z < K.size → f z < length a = λ z hz. subst (λ n. f z < n) (sym len) (colour_at-below K h x z hx hz) in
     let right : (z : ℕ) → z < K.size → g z < length a = λ z hz. subst (λ n. g z < n) (sym len) (colour_at-below K h z y hz hy) in
     count_by_points (λ z. (colour_at (merge K a) x z == u) && (colour_at (merge K a) z y == v)) (λ z. (slice_index a (f z) == u) && (slice_index a (g z) == v)) K.size
-    (λ z hz i. (colour_at-merge K h.fits.colouring a x z hx hz i == u) && (colour_at-merge K h.fits.colouring a z y hz hy i == v))
+    (λ z hz i. (colour_at-merge K h.colouring a x z hx hz i == u) && (colour_at-merge K h.colouring a z y hz hy i == v))
     ∙ sum_by_points_agree (λ z. unit_of ((slice_index a (f z) == u) && (slice_index a (g z) == v)))
     (λ z. count_by (λ i. f z == i) (places_of a u) * count_by (λ j. g z == j) (places_of a v)) K.size
     (λ z hz. unit_times (slice_index a (f z) == u) (slice_index a (g z) == v)
@@ -82,7 +82,7 @@ blocks_from_coherent K h a len m = record {
 }
   where
     at : (x y : ℕ) → x < K.size → y < K.size → colour_at (merge K a) x y ≡ slice_index a (colour_at K x y)
-    at x y hx hy = colour_at-merge K h.fits.colouring a x y hx hy
+    at x y hx hy = colour_at-merge K h.colouring a x y hx hy
 
 -- the colour of a turned pair
 pub transposed-everywhere : (K : PairColouring) → IsConfiguration K → (x y : ℕ) → x < K.size → y < K.size → transposed K (colour_at K x y) ≡ colour_at K y x
@@ -110,7 +110,7 @@ coherent_from_blocks K h a len b = record {
 }
   where
     at : (x y : ℕ) → x < K.size → y < K.size → colour_at (merge K a) x y ≡ slice_index a (colour_at K x y)
-    at x y hx hy = colour_at-merge K h.fits.colouring a x y hx hy
+    at x y hx hy = colour_at-merge K h.colouring a x y hx hy
 
     below : (x y u v : ℕ) → x < K.size → y < K.size → u < K.size → v < K.size → colour_at (merge K a) x y ≡ colour_at (merge K a) u v → slice_index a (colour_at K x y) ≡ slice_index a (colour_at K u v)
     below x y u v hx hy hu hv e = sym (at x y hx hy) ∙ e ∙ at u v hu hv

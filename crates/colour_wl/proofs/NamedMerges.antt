@@ -1,18 +1,15 @@
 -- Merging a named configuration by a growth string gives a named colouring.
-use Rattle.std.proofs.Common.{◌≡◌, ◌==◌, ◌&&◌, ℕ, zero, suc, ◌+◌, ◌<◌, ◌≤◌, max, Bool, true, false, not, cond, nat_eq, List, [], ◌∷◌, ◌++◌, length, get_or, take, map, filter, slice_index, ⊎_elim, refl, sym, ap, ◌∙◌, arith, if◌then◌else◌}
+use Rattle.std.proofs.Common.{◌≡◌, ◌==◌, ℕ, zero, suc, ◌+◌, ◌<◌, ◌≤◌, max, nat_eq, List, [], ◌∷◌, ◌++◌, length, get_or, take, map, slice_index, ⊎_elim, refl, sym, ap, ◌∙◌, arith, if◌then◌else◌}
 use Rattle.std.specs.List.{AllByRecursion, list_any, position_or_len}
-use Rattle.std.proofs.lemmas.Bool.{cases_lt, cases_eq, eq-eqb, ne_eqb, eqb-true}
+use Rattle.std.proofs.lemmas.Bool.{cases_lt, eq-eqb}
 use Rattle.std.proofs.lemmas.List.{map-id, take_more, take_all, ext_get_or}
-use Rattle.std.proofs.lemmas.List.Elements.{All-from_recursion}
-use Rattle.std.proofs.lemmas.List.Folds.{list_any_none}
 use Rattle.std.proofs.lemmas.List.FromFn.{get_or-range_with_len, length-range_with_len, fill_by_all}
-use Rattle.std.proofs.lemmas.List.Sums.{position_or_len_is}
 use Rattle.indexmap.specs.IndexSet.{insert_key}
 use Rattle.pair_colours.specs.Colouring.{PairColouring, IsColour, colour_at, points}
 use Rattle.pair_colours.specs.Naming.{walk, first_met, colours_met, name_of, named_of, rank_of}
 use Rattle.pair_colours.proofs.Closures.{met_at}
 use Rattle.pair_colours.proofs.Counts.{points_more}
-use Rattle.pair_colours.proofs.ListLemmas.{Each-weaker, Each-points, Each-map, map_agree, map-map, list_any-points}
+use Rattle.pair_colours.proofs.ListLemmas.{Each-weaker, Each-map, map_agree, map-map, list_any-points}
 use Rattle.pair_colours.proofs.NamePlaces.{name_of-position}
 use Rattle.pair_colours.proofs.Names.{InSquare, Each-walk, Each-colours, along}
 use Rattle.pair_colours.proofs.Walked.{first_met_push}
@@ -22,73 +19,9 @@ use Rattle.colour_wl.specs.GrowthStrings.{next_number, IsGrowth}
 use Rattle.colour_wl.specs.Fusions.{merge}
 use Rattle.colour_wl.proofs.Growth.{next_number-push, next_above}
 use Rattle.colour_wl.proofs.Merged.{colour_at-merge}
-
--- two filters in either order, and a filter that the other one makes idle
-filter-filter : (p q : ℕ → Bool) (xs : List ℕ) → filter p (filter q xs) ≡ filter (λ x. q x && p x) xs
-filter-filter p q [] = refl
-filter-filter p q (x ∷ xs) = by (q x) (filter-filter p q xs)
-  where
-    by : (b : Bool) → filter p (filter q xs) ≡ filter (λ x. q x && p x) xs → filter p (cond b (x ∷ filter q xs) (filter q xs)) ≡ cond (b && p x) (x ∷ filter (λ x. q x && p x) xs) (filter (λ x. q x && p x) xs)
-    by true again = ap (λ l. cond (p x) (x ∷ l) l) again
-    by false again = again
-
-filter_same : (p q : ℕ → Bool) → ((x : ℕ) → p x ≡ q x) → (xs : List ℕ) → filter p xs ≡ filter q xs
-filter_same p q h xs = λ i. filter (λ x. h x i) xs
-
-and_turned : (a b : Bool) → (a && b) ≡ (b && a)
-and_turned true true = refl
-and_turned true false = refl
-and_turned false true = refl
-and_turned false false = refl
-
-filter_turned : (p q : ℕ → Bool) (xs : List ℕ) → filter p (filter q xs) ≡ filter q (filter p xs)
-filter_turned p q xs = filter-filter p q xs ∙ filter_same (λ x. q x && p x) (λ x. p x && q x) (λ x. and_turned (q x) (p x)) xs ∙ sym (filter-filter q p xs)
-
-filter_idle : (p : ℕ → Bool) (z : ℕ) → p z ≡ false → (xs : List ℕ) → filter p (filter (λ y. not (z == y)) xs) ≡ filter p xs
-filter_idle p z e xs = filter-filter p (λ y. not (z == y)) xs ∙ filter_same (λ x. not (z == x) && p x) p (λ x. ⊎_elim (same x) (other x) (cases_eq z x)) xs
-  where
-    same : (x : ℕ) → z ≡ x → (not (z == x) && p x) ≡ p x
-    same x s = ap (λ b. not b && p x) (eq-eqb z x s) ∙ sym e ∙ ap p s
-
-    other : (x : ℕ) → (z ≡ x → ⊥) → (not (z == x) && p x) ≡ p x
-    other x n = ap (λ b. not b && p x) (ne_eqb z x n)
-
-first_met-filter : (p : ℕ → Bool) (zs : List ℕ) → filter p (first_met zs) ≡ first_met (filter p zs)
-first_met-filter p [] = refl
-first_met-filter p (z ∷ zs) = by (p z) refl (first_met-filter p zs)
-  where
-    by : (b : Bool) → p z ≡ b → filter p (first_met zs) ≡ first_met (filter p zs)
-        → cond b (z ∷ filter p (filter (λ y. not (z == y)) (first_met zs))) (filter p (filter (λ y. not (z == y)) (first_met zs))) ≡ first_met (cond b (z ∷ filter p zs) (filter p zs))
-    by true e again = ap (λ l. z ∷ l) (filter_turned p (λ y. not (z == y)) (first_met zs) ∙ ap (filter (λ y. not (z == y))) again)
-    by false e again = filter_idle p z e (first_met zs) ∙ again
-
-without_image : (f : ℕ → ℕ) (x : ℕ) (ys : List ℕ) → filter (λ y. not (f x == y)) (map f ys) ≡ filter (λ y. not (f x == y)) (map f (filter (λ y. not (x == y)) ys))
-without_image f x [] = refl
-without_image f x (y ∷ ys) = by (x == y) refl (without_image f x ys)
-  where
-    by : (b : Bool) → (x == y) ≡ b → filter (λ z. not (f x == z)) (map f ys) ≡ filter (λ z. not (f x == z)) (map f (filter (λ z. not (x == z)) ys))
-        → cond (not (f x == f y)) (f y ∷ filter (λ z. not (f x == z)) (map f ys)) (filter (λ z. not (f x == z)) (map f ys))
-        ≡ filter (λ z. not (f x == z)) (map f (cond (not b) (y ∷ filter (λ z. not (x == z)) ys) (filter (λ z. not (x == z)) ys)))
-    by true e again = ap (λ b. cond (not b) (f y ∷ filter (λ z. not (f x == z)) (map f ys)) (filter (λ z. not (f x == z)) (map f ys))) (eq-eqb (f x) (f y) (ap f (eqb-true x y e))) ∙ again
-    by false e again = ap (λ l. cond (not (f x == f y)) (f y ∷ l) l) again
-
--- what is met of the images is what is met of the images of what is met
-pub first_met-map : (f : ℕ → ℕ) (xs : List ℕ) → first_met (map f xs) ≡ first_met (map f (first_met xs))
-first_met-map f [] = refl
-first_met-map f (x ∷ xs) =
-    ap (λ l. f x ∷ l)
-    (ap (filter (λ y. not (f x == y))) (first_met-map f xs)
-    ∙ first_met-filter (λ y. not (f x == y)) (map f (first_met xs))
-    ∙ ap first_met (without_image f x (first_met xs))
-    ∙ sym (first_met-filter (λ y. not (f x == y)) (map f (filter (λ y. not (x == y)) (first_met xs)))))
+use Rattle.pair_colours.proofs.MetNumbers.{first_met-map, none_in_points, position_in_points}
 
 -- a growth string meets the numbers in their order
-none_in_points : (v n : ℕ) → n ≤ v → list_any (nat_eq v) (points n) ≡ false
-none_in_points v n l =
-    list_any_none (nat_eq v) (points n)
-    (All-from_recursion (λ y. nat_eq v y ≡ false) (points n)
-    (Each-weaker (λ y. y < n) (λ y. nat_eq v y ≡ false) (λ y m. ne_eqb v y (λ e. omega (arith, e, m, l))) (points n) (Each-points n)))
-
 meets : (n : ℕ) (b : List ℕ) → IsGrowth n b → (i : ℕ) → i ≤ n → first_met (take i b) ≡ points (next_number (take i b))
 meets n b g zero l = refl
 meets n b g (suc i) l =
@@ -127,18 +60,12 @@ colours_met-configuration K h =
     let there : get_or (points (rank_of K)) k 0 ≡ k = omega (arith, get_or-range_with_len 0 (rank_of K) k 0 l) in
     ap (λ i. get_or (colours_met K) i 0) (sym (name_of_colour K h k u)) ∙ here ∙ sym there)
 
-position_in_points : (n c : ℕ) → c < n → position_or_len (λ y. c == y) (points n) ≡ c
-position_in_points n c l =
-    position_or_len_is (λ y. c == y) (points n) c 0 (omega (arith, l, length-range_with_len 0 n))
-    (λ k m. ne_eqb c (get_or (points n) k 0) (λ e. omega (arith, e, m, get_or-range_with_len 0 n k 0 (omega (arith, m, l)))))
-    (λ m. eq-eqb c (get_or (points n) c 0) (omega (arith, get_or-range_with_len 0 n c 0 l)))
-
 -- the merged colours are met in their order
 colours_met-merge : (K : PairColouring) → IsConfiguration K → (b : List ℕ) → IsGrowth (rank_of K) b → colours_met (merge K b) ≡ points (next_number b)
 colours_met-merge K h b g =
     let images : along (merge K b) ≡ map (slice_index b) (along K) =
     map_agree (λ p. colour_at (merge K b) p.0 p.1) (λ p. slice_index b (colour_at K p.0 p.1)) (walk K.size)
-    (Each-weaker (InSquare K.size) (λ p. colour_at (merge K b) p.0 p.1 ≡ slice_index b (colour_at K p.0 p.1)) (λ p l. colour_at-merge K h.fits.colouring b p.0 p.1 l.0 l.1) (walk K.size) (Each-walk K.size))
+    (Each-weaker (InSquare K.size) (λ p. colour_at (merge K b) p.0 p.1 ≡ slice_index b (colour_at K p.0 p.1)) (λ p l. colour_at-merge K h.colouring b p.0 p.1 l.0 l.1) (walk K.size) (Each-walk K.size))
     ∙ sym (map-map (slice_index b) (λ p. colour_at K p.0 p.1) (walk K.size)) in
     let whole : map (slice_index b) (points (rank_of K)) ≡ b = sym (fill_by_all (slice_index b) b (rank_of K) 0 g.len (λ k l. refl)) in
     ap first_met images
@@ -156,5 +83,5 @@ merge_named K h b g =
     ∙ position_in_points (next_number b) (slice_index b c) (next_above b c (omega (arith, l, g.len))) in
     let each : (cs : List ℕ) → AllByRecursion (IsColour K) cs → AllByRecursion (λ c. name_of M c ≡ c) (map (slice_index b) cs) = λ cs u.
     Each-map (λ c. name_of M c ≡ c) (slice_index b) cs (Each-weaker (IsColour K) (λ c. name_of M (slice_index b c) ≡ slice_index b c) (λ c v. kept c (colour_below K h c v)) cs u) in
-    let colours : map (name_of M) M.colours ≡ M.colours = map_agree (name_of M) (λ c. c) M.colours (each K.colours (Each-colours K h.fits.colouring)) ∙ map-id M.colours in
+    let colours : map (name_of M) M.colours ≡ M.colours = map_agree (name_of M) (λ c. c) M.colours (each K.colours (Each-colours K h.colouring)) ∙ map-id M.colours in
     λ i. record { size = K.size; colours = colours i }

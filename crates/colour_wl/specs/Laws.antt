@@ -1,11 +1,11 @@
 -- What holds of all fusions.
 use Rattle.std.specs.Prelude.{◌≡◌, ◌↔◌, ℕ, List, ◌∷◌, ◌++◌, AllPairs, Contains}
-use Rattle.pair_colours.specs.Colouring.{PairColouring}
+use Rattle.pair_colours.specs.Colouring.{PairColouring, IsColouring, Refines, IsSamePartition}
 use Rattle.pair_colours.specs.Closure.{Coherent}
-use Rattle.pair_colours.specs.Naming.{rank_of}
+use Rattle.pair_colours.specs.Naming.{rank_of, named_of}
 use Rattle.struct_consts.specs.ClassData.{IsConfiguration}
 use Rattle.colour_wl.specs.GrowthStrings.{IsGrowth, growth_strings, IsBefore}
-use Rattle.colour_wl.specs.Fusions.{merge, IsFusions, IsFusionsAfter}
+use Rattle.colour_wl.specs.Fusions.{merge, IsFusion, IsFusions, IsFusionsAfter}
 use Rattle.colour_wl.specs.BlockSums.{HasCoherentBlocks}
 
 -- the list of growth strings has all of them, in strict lexicographic order
@@ -27,3 +27,14 @@ FusionsResume = (K : PairColouring) (front rest : List (List ℕ)) (after : List
 -- merging by a growth string is coherent exactly where its blocks are, by the structure constants
 abbrev pub FusionsBySums : Type 0
 FusionsBySums = (K : PairColouring) → IsConfiguration K → (a : List ℕ) → IsGrowth (rank_of K) a → Coherent (merge K a) ↔ HasCoherentBlocks K a
+
+-- a is a fusion that merges K to the classes of L, so to L itself where L is named, and no other growth string does
+pub record IsOneFusionTo (K L : PairColouring) (a : List ℕ) : Type 0 where
+  pub fusion : IsFusion K a
+  pub merges : IsSamePartition (merge K a) L
+  pub named : merge K a ≡ named_of L
+  pub only : (b : List ℕ) → IsGrowth (rank_of K) b → IsSamePartition (merge K b) L → b ≡ a
+
+-- each coherent colouring that a configuration refines is its merging by exactly one fusion
+abbrev pub CoarserAreMergings : Type 0
+CoarserAreMergings = (K L : PairColouring) → IsConfiguration K → IsColouring L → Coherent L → Refines K L → (a : List ℕ) × IsOneFusionTo K L a

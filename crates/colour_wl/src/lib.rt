@@ -16,7 +16,4 @@ mod hashing;
 pub mod laws;
 
 pub use fusing::{close_colours, is_fusion};
-pub use growing::is_growth;
-
-#[cfg(test)]
-mod tests;
+pub use growing::{is_growth, next_of};

@@ -1,5 +1,5 @@
 pub mod LawProofs
-mod Walks
+pub mod Walks
 mod Searches
 mod Counting
 mod FirstPlaces

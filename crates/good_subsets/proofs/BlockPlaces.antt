@@ -1,5 +1,5 @@
 -- The places of a number in a string.
-use Rattle.std.proofs.Common.{◌≡◌, ◌==◌, ℕ, ◌<◌, ◌≤◌, Bool, cond, ltb, List, [], ◌∷◌, length, take, filter, Contains, slice_index, inl, inr, refl, sym, ◌∙◌, arith}
+use Rattle.std.proofs.Common.{◌≡◌, ◌==◌, ℕ, ◌<◌, ◌≤◌, ltb, List, length, take, filter, Contains, slice_index, sym, ◌∙◌, arith}
 use Rattle.std.proofs.lemmas.Bool.{eqb-true, eq-eqb, lt-ltb, ltb-true}
 use Rattle.std.proofs.lemmas.Bool.Decides.{Decides-eqb, Decides-like, same_from_decides}
 use Rattle.std.proofs.lemmas.List.{get_or-take, length-take-le, get_or_default}
@@ -9,16 +9,6 @@ use Rattle.pair_colours.specs.Subsets.{IsSetBelow}
 use Rattle.pair_colours.proofs.SortedLists.{In, In-points, In-points_from, Ordered, Ordered-points}
 use Rattle.pair_colours.proofs.SubsetLemmas.{In-filter, In-filter_from, Ordered-filter, same_rising, Decides-is_in, filtered_listed, subsets_below}
 use Rattle.colour_wl.specs.BlockSums.{places_of}
-
--- tests that agree on a list pass the same
-pub filter_agree_in : {X : Type 0} (p q : X → Bool) (xs : List X) → ((x : X) → In x xs → p x ≡ q x) → filter p xs ≡ filter q xs
-filter_agree_in p q [] h = refl
-filter_agree_in p q (x ∷ xs) h =
-    let again = filter_agree_in p q xs (λ y i. h y (inr i)) in
-    λ k. cond (h x (inl refl) k) (x ∷ again k) (again k)
-
-pub filter_points_agree : (p q : ℕ → Bool) (n : ℕ) → ((c : ℕ) → c < n → p c ≡ q c) → filter p (points n) ≡ filter q (points n)
-filter_points_agree p q n h = filter_agree_in p q (points n) (λ c i. h c (In-points_from n c i))
 
 pub Ordered-places_of : (a : List ℕ) (v : ℕ) → Ordered (λ j k. j < k) (places_of a v)
 Ordered-places_of a v = Ordered-filter (λ j k. j < k) (λ c. slice_index a c == v) (points (length a)) (Ordered-points (length a))

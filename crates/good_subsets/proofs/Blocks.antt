@@ -16,7 +16,8 @@ use Rattle.colour_wl.proofs.Classes.{colour_at-below, pair_of_class-holds}
 use Rattle.colour_wl.proofs.Merged.{transposed-everywhere, blocks_from_coherent}
 use Rattle.good_subsets.specs.GoodSets.{IsBlock, IsGood, IsGoodSets}
 use Rattle.good_subsets.specs.Transposed.{transposes}
-use Rattle.good_subsets.proofs.BlockPlaces.{In-places_of, In-places_of_from, is_in-places_of, filter_points_agree, Contains_at, Contains_from_at, places_below}
+use Rattle.good_subsets.proofs.BlockPlaces.{In-places_of, In-places_of_from, is_in-places_of, Contains_at, Contains_from_at, places_below}
+use Rattle.pair_colours.proofs.ListLemmas.{filter_points_agree}
 
 -- a block of a fusion is the block of each of its colours
 pub block_of : (a set : List ℕ) (c : ℕ) → IsBlock a set → In c set → (c < length a) × (set ≡ places_of a (slice_index a c))

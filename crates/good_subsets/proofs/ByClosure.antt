@@ -5,12 +5,11 @@ use Rattle.std.proofs.lemmas.Bool.Decides.{Decides-eqb, same_from_decides}
 use Rattle.std.proofs.lemmas.List.{get_or-map, length-map, get_or-take, length-take-le}
 use Rattle.pair_colours.specs.Colouring.{PairColouring, IsColouring, Refines, colour_at, points}
 use Rattle.pair_colours.specs.ColourSets.{is_in}
-use Rattle.pair_colours.specs.Closure.{Coherent, IsClosure}
+use Rattle.pair_colours.specs.Closure.{IsClosure}
 use Rattle.pair_colours.specs.Naming.{rank_of}
 use Rattle.pair_colours.specs.IntersectionNumber.{pair_of_class}
 use Rattle.pair_colours.proofs.Counts.{unit_of}
 use Rattle.pair_colours.proofs.Places.{place_below}
-use Rattle.pair_colours.proofs.Closures.{Coherent-same}
 use Rattle.struct_consts.specs.ClassData.{IsConfiguration}
 use Rattle.colour_wl.proofs.Classes.{colour_at-below, pair_of_class-holds}
 use Rattle.colour_wl.specs.Fusions.{merge, IsFusion}
@@ -18,9 +17,10 @@ use Rattle.colour_wl.specs.BlockSums.{places_of}
 use Rattle.pair_colours.specs.Subsets.{IsSetBelow}
 use Rattle.good_subsets.specs.GoodSets.{IsGood, in_or_not, IsOneClass}
 use Rattle.colour_wl.proofs.Merged.{colour_at-merge, IsColouring-merge}
-use Rattle.good_subsets.proofs.StringsOf.{IsStringOf, string_of}
+use Rattle.colour_wl.proofs.Coarser.{class_colour, class_colour-at, fusion_of_coarser}
 use Rattle.pair_colours.proofs.SubsetLemmas.{set_is_filter}
-use Rattle.good_subsets.proofs.BlockPlaces.{is_in-places_of, filter_points_agree, Contains_at, Contains_from_at, places_of-take}
+use Rattle.good_subsets.proofs.BlockPlaces.{is_in-places_of, Contains_at, Contains_from_at, places_of-take}
+use Rattle.pair_colours.proofs.ListLemmas.{filter_points_agree}
 
 pub colour_at-in_or_not : (K : PairColouring) → IsColouring K → (set : List ℕ) (x y : ℕ) → x < K.size → y < K.size
     → colour_at (in_or_not K set) x y ≡ cond (is_in set (colour_at K x y)) 1 0
@@ -58,8 +58,8 @@ class_from_good K h set L l g =
     let p = pair_of_class-holds K h at.0 (omega (arith, at.1, g.is_fusion.growth.len)) in
     let inside : (x y : ℕ) → x < K.size → y < K.size → is_in set (colour_at K x y) ≡ (slice_index a (colour_at K x y) == v) = λ x y hx hy.
     ap (λ s. is_in s (colour_at K x y)) g.block.places ∙ is_in-places_of a v (colour_at K x y) (omega (arith, colour_at-below K h x y hx hy, g.is_fusion.growth.len)) in
-    let coarser : Refines (merge K a) L = l.coarsest (merge K a) (IsColouring-merge K h.fits.colouring a) g.is_fusion.coherent (fusion_refines K h.fits.colouring a set v inside) in
-    let first : colour_at (merge K a) (pair_of_class K at.0).0 (pair_of_class K at.0).1 ≡ v = colour_at-merge K h.fits.colouring a _ _ p.row p.column ∙ ap (slice_index a) p.colour ∙ at.2 in
+    let coarser : Refines (merge K a) L = l.coarsest (merge K a) (IsColouring-merge K h.colouring a) g.is_fusion.coherent (fusion_refines K h.colouring a set v inside) in
+    let first : colour_at (merge K a) (pair_of_class K at.0).0 (pair_of_class K at.0).1 ≡ v = colour_at-merge K h.colouring a _ _ p.row p.column ∙ ap (slice_index a) p.colour ∙ at.2 in
     let own : is_in set (colour_at K (pair_of_class K at.0).0 (pair_of_class K at.0).1) ≡ true =
     inside _ _ p.row p.column ∙ eq-eqb _ v (ap (slice_index a) p.colour ∙ at.2) in
     let to : (z : ℕ) → z < K.size → z < L.size = λ z hz. omega (arith, hz, l.refines.sizes) in
@@ -70,12 +70,12 @@ class_from_good K h set L l g =
       column = p.column;
       is = λ u w hu hw. (
         λ e.
-            let same : colour_at (merge K a) u w ≡ v = colour_at-merge K h.fits.colouring a u w hu hw ∙ eqb-true _ v (sym (inside u w hu hw) ∙ e) in
+            let same : colour_at (merge K a) u w ≡ v = colour_at-merge K h.colouring a u w hu hw ∙ eqb-true _ v (sym (inside u w hu hw) ∙ e) in
             coarser.classes u w _ _ hu hw p.row p.column (same ∙ sym first),
         λ e. one_from_unit _
-            (sym (colour_at-in_or_not K h.fits.colouring set u w hu hw)
+            (sym (colour_at-in_or_not K h.colouring set u w hu hw)
             ∙ l.refines.classes u w _ _ (to u hu) (to w hw) (to _ p.row) (to _ p.column) e
-            ∙ colour_at-in_or_not K h.fits.colouring set _ _ p.row p.column
+            ∙ colour_at-in_or_not K h.colouring set _ _ p.row p.column
             ∙ ap (λ b. cond b 1 0) own),
       );
     }
@@ -86,44 +86,10 @@ refines-in_or_not K h set = record {
   classes = λ x y u v hx hy hu hv e. colour_at-in_or_not K h set x y hx hy ∙ ap (λ c. cond (is_in set c) 1 0) e ∙ sym (colour_at-in_or_not K h set u v hu hv);
 }
 
--- the L-colour of a class of K
-abbrev class_colour : PairColouring → PairColouring → ℕ → ℕ
-class_colour K L c = colour_at L (pair_of_class K c).0 (pair_of_class K c).1
-
-class_colour-at : (K L : PairColouring) → IsConfiguration K → Refines K L → (x y : ℕ) → x < K.size → y < K.size → class_colour K L (colour_at K x y) ≡ colour_at L x y
-class_colour-at K L h r x y hx hy =
-    let p = pair_of_class-holds K h (colour_at K x y) (colour_at-below K h x y hx hy) in
-    r.classes _ _ x y p.row p.column hx hy p.colour
-
--- each coherent colouring that K refines is that of a fusion
-pub fusion_of_coarser : (K L : PairColouring) → IsConfiguration K → IsColouring L → Coherent L → Refines K L → (a : List ℕ) × IsFusion K a × IsStringOf (class_colour K L) (rank_of K) a
-fusion_of_coarser K L h c l r =
-    let s = string_of (class_colour K L) (rank_of K) in
-    let a : List ℕ = s.0 in
-    let at : (x y : ℕ) → x < K.size → y < K.size → colour_at (merge K a) x y ≡ slice_index a (colour_at K x y) = λ x y hx hy. colour_at-merge K h.fits.colouring a x y hx hy in
-    let low : (x y : ℕ) → x < K.size → y < K.size → colour_at K x y < rank_of K = colour_at-below K h in
-    let to : (z : ℕ) → z < L.size → z < K.size = λ z hz. omega (arith, hz, r.sizes) in
-    let finer : Refines L (merge K a) = record {
-      sizes = sym r.sizes;
-      classes = λ x y u v hx hy hu hv e.
-          at x y (to x hx) (to y hy)
-          ∙ s.1.together _ _ (low x y (to x hx) (to y hy)) (low u v (to u hu) (to v hv))
-          (class_colour-at K L h r x y (to x hx) (to y hy) ∙ e ∙ sym (class_colour-at K L h r u v (to u hu) (to v hv)))
-          ∙ sym (at u v (to u hu) (to v hv));
-    } in
-    let coarser : Refines (merge K a) L = record {
-      sizes = r.sizes;
-      classes = λ x y u v hx hy hu hv e.
-          sym (class_colour-at K L h r x y hx hy)
-          ∙ s.1.apart _ _ (low x y hx hy) (low u v hu hv) (sym (at x y hx hy) ∙ e ∙ at u v hu hv)
-          ∙ class_colour-at K L h r u v hu hv;
-    } in
-    (a, record { growth = s.1.growth; coherent = Coherent-same L (merge K a) c l finer coarser }, s.1)
-
 -- a set whose pairs are one class of the closure is good
 pub good_from_class : (K : PairColouring) → IsConfiguration K → (set : List ℕ) → IsSetBelow (rank_of K) set → (L : PairColouring) → IsClosure L (in_or_not K set) → IsOneClass K L set → IsGood K set
 good_from_class K h set s L l one =
-    let r : Refines K L = l.coarsest K h.fits.colouring h.coherent (refines-in_or_not K h.fits.colouring set) in
+    let r : Refines K L = l.coarsest K h.colouring h.coherent (refines-in_or_not K h.colouring set) in
     let f = fusion_of_coarser K L h l.colouring l.coherent r in
     let a : List ℕ = f.0 in
     let c : ℕ = colour_at K one.x one.y in

@@ -1,5 +1,5 @@
 -- What the mask of a good set passes, and the list of the masks of good sets.
-use Rattle.std.proofs.Common.{◌≡◌, ◌==◌, Bool, false, Some, ℕ, ◌+◌, ◌^◌, ◌<◌, ◌≤◌, true, List, [], ◌∷◌, ◌++◌, length, map, take, bit_and, get_or, ⊎_elim, refl, sym, ap, subst, ◌∙◌, arith}
+use Rattle.std.proofs.Common.{◌≡◌, ◌==◌, Bool, false, Some, ℕ, ◌+◌, ◌^◌, ◌<◌, ◌≤◌, true, List, [], ◌∷◌, ◌++◌, length, map, take, bit_and, get_or, sym, ap, subst, ◌∙◌, arith}
 use Rattle.std.proofs.lemmas.Bool.{eqb-true, eq-eqb, ne_eqb}
 use Rattle.std.proofs.lemmas.List.{map-append, length_push}
 use Rattle.pair_colours.specs.Colouring.{PairColouring, colour_at, points}
@@ -22,10 +22,10 @@ use Rattle.good_subsets.specs.Diagonals.{IsDiagonalMask}
 use Rattle.good_subsets.specs.GoodSets.{IsGood, IsGoodSets, AreGoodNumbers}
 use Rattle.good_subsets.specs.Products.{IsConstantOn}
 use Rattle.good_subsets.specs.Transposed.{transposes, IsTurned}
-use Rattle.good_subsets.proofs.BlockPlaces.{filter_points_agree}
 use Rattle.good_subsets.proofs.Blocks.{good_passes, transposed-below}
 use Rattle.good_subsets.proofs.GoodTest.{good_not_empty}
 use Rattle.good_subsets.proofs.MaskBits.{common_colour, common_whole, members_from_bits, masks_same, bit_number-members}
+use Rattle.pair_colours.proofs.ListLemmas.{filter_points_agree}
 
 pub turned_made : (K : PairColouring) → IsConfiguration K → (mask turned : ℕ) → HasBits (rank_of K) turned (λ d. is_member mask (transposed K d)) → IsTurned K mask turned
 turned_made K h mask turned b = record {

@@ -27,7 +27,7 @@ use Rattle.good_subsets.proofs.ByClosure.{colour_at-in_or_not, class_from_good, 
 
 module _ (K : PairColouring) (h : IsConfiguration K) (set s b : List ℕ) (below : IsSetBelow (rank_of K) set) (marks : IsMarked (rank_of K) set s) (c : IsClosureOf (merge K b) (merge K s)) where
   at : (a : List ℕ) (x y : ℕ) → x < K.size → y < K.size → colour_at (merge K a) x y ≡ slice_index a (colour_at K x y)
-  at a x y hx hy = colour_at-merge K h.fits.colouring a x y hx hy
+  at a x y hx hy = colour_at-merge K h.colouring a x y hx hy
 
   low : (x y : ℕ) → x < K.size → y < K.size → colour_at K x y < rank_of K
   low = colour_at-below K h
@@ -36,9 +36,9 @@ module _ (K : PairColouring) (h : IsConfiguration K) (set s b : List ℕ) (below
   to_set = record {
     sizes = refl;
     classes = λ x y u v hx hy hu hv e.
-        colour_at-in_or_not K h.fits.colouring set x y hx hy
+        colour_at-in_or_not K h.colouring set x y hx hy
         ∙ ap (λ t. cond t 1 0) (marks.apart _ _ (low x y hx hy) (low u v hu hv) (sym (at s x y hx hy) ∙ e ∙ at s u v hu hv))
-        ∙ sym (colour_at-in_or_not K h.fits.colouring set u v hu hv);
+        ∙ sym (colour_at-in_or_not K h.colouring set u v hu hv);
   }
 
   same_unit : (p q : Bool) → cond p 1 zero ≡ cond q 1 zero → p ≡ q
@@ -53,7 +53,7 @@ module _ (K : PairColouring) (h : IsConfiguration K) (set s b : List ℕ) (below
     classes = λ x y u v hx hy hu hv e.
         at s x y hx hy
         ∙ marks.together _ _ (low x y hx hy) (low u v hu hv)
-        (same_unit (is_in set (colour_at K x y)) (is_in set (colour_at K u v)) (sym (colour_at-in_or_not K h.fits.colouring set x y hx hy) ∙ e ∙ colour_at-in_or_not K h.fits.colouring set u v hu hv))
+        (same_unit (is_in set (colour_at K x y)) (is_in set (colour_at K u v)) (sym (colour_at-in_or_not K h.colouring set x y hx hy) ∙ e ∙ colour_at-in_or_not K h.colouring set u v hu hv))
         ∙ sym (at s u v hu hv);
   }
 
@@ -83,9 +83,9 @@ module _ (K : PairColouring) (h : IsConfiguration K) (set s b : List ℕ) (below
         is = λ u v hu hv. (
           λ e. at b u v hu hv ∙ same (colour_at K u v) ((Decides-is_in set (colour_at K u v)).0 e) ∙ ap (slice_index b) (sym p.colour) ∙ sym (at b x y p.row p.column),
           λ e. one_from_unit (is_in set (colour_at K u v))
-              (sym (colour_at-in_or_not K h.fits.colouring set u v hu hv)
+              (sym (colour_at-in_or_not K h.colouring set u v hu hv)
               ∙ closure.refines.classes u v x y hu hv p.row p.column e
-              ∙ colour_at-in_or_not K h.fits.colouring set x y p.row p.column
+              ∙ colour_at-in_or_not K h.colouring set x y p.row p.column
               ∙ ap (λ t. cond t 1 0) own),
         );
       })

@@ -1,5 +1,4 @@
 pub mod BlockPlaces
-pub mod StringsOf
 pub mod Deciding
 pub mod ByClosure
 mod GoodTest

@@ -1,17 +1,16 @@
 -- Masks by their bits.
-use Rattle.std.proofs.Common.{◌≡◌, ◌==◌, ◌⊎◌, min, ℕ, zero, suc, ◌+◌, ◌/◌, ◌%◌, ◌^◌, ◌<◌, ◌≤◌, Bool, true, false, List, map, filter, bit_and, get_or, inl, inr, ⊎_elim, refl, sym, ap, ◌∙◌, arith}
+use Rattle.std.proofs.Common.{◌≡◌, ◌==◌, ◌⊎◌, min, ℕ, zero, suc, ◌/◌, ◌%◌, ◌^◌, ◌<◌, ◌≤◌, Bool, true, false, map, filter, bit_and, get_or, inl, inr, ⊎_elim, refl, sym, ap, ◌∙◌, arith}
 use Rattle.std.specs.Int.{bit_at}
 use Rattle.std.proofs.lemmas.Bool.{cases_lt, cases_Bool, eqb-true, eq-eqb, both_ways}
 use Rattle.std.proofs.lemmas.List.FromFn.{get_or-range_with_len, get_or-map-range_with_len}
 use Rattle.std.proofs.lemmas.Nat.Bits.{bit_at_above, bit_at_and, bit_at-lt, same_from_bits, same_from_bits_below}
 use Rattle.pair_colours.specs.Colouring.{points}
 use Rattle.pair_colours.specs.ColourSets.{is_in}
-use Rattle.pair_colours.specs.Subsets.{subsets, bit_number, IsSetBelow}
-use Rattle.pair_colours.proofs.ListLemmas.{map-map}
+use Rattle.pair_colours.specs.Subsets.{bit_number, IsSetBelow}
+use Rattle.pair_colours.proofs.ListLemmas.{map-map, filter_points_agree}
 use Rattle.pair_colours.proofs.SubsetLemmas.{filtered_listed, subsets_below, subsets_are_all}
 use Rattle.visitors.specs.Masks.{is_member, members_of, HasBits}
 use Rattle.visitors.proofs.MaskSets.{is_in-members_of, subsets_masks}
-use Rattle.good_subsets.proofs.BlockPlaces.{filter_points_agree}
 
 -- bits below 2, and the lesser of two
 pub both_one : (x y : ℕ) → x < 2 → y < 2 → min x y ≡ 1 → (x ≡ 1) × (y ≡ 1)

@@ -20,6 +20,3 @@ mod transposing;
 pub use listing::{good, good_numbers, list_colours};
 pub use table::{constants_table, product};
 pub use transposing::transposes_of;
-
-#[cfg(test)]
-mod tests;

@@ -1,17 +1,15 @@
 -- Sums of structure constants over blocks, folded from the table.
-use Rattle.std.proofs.Common.{◌≡◌, ◌==◌, ◌&&◌, ℕ, zero, suc, ◌+◌, ◌*◌, ◌%◌, ◌^◌, ◌<◌, ◌≤◌, Bool, true, false, List, [], ◌∷◌, ◌++◌, All, length, filter, get_or, sum_by, slice_index, inl, inr, ⊎_elim, refl, sym, ap, subst, ◌∙◌, arith}
+use Rattle.std.proofs.Common.{◌≡◌, ◌==◌, ◌&&◌, ℕ, ◌+◌, ◌*◌, ◌%◌, ◌^◌, ◌<◌, ◌≤◌, Bool, true, false, List, [], ◌∷◌, All, length, filter, get_or, sum_by, slice_index, inl, inr, refl, sym, ap, ◌∙◌, arith}
 use Rattle.std.proofs.Math.Nat.{mod-add-mod, mod-eq_of_lt}
-use Rattle.std.proofs.lemmas.Bool.{cases_lt}
 use Rattle.std.proofs.lemmas.List.Sums.{sum_by-cons, sum_by_push, sum_by-le, count_by-le-length, length-filter}
 use Rattle.std.proofs.lemmas.List.FromFn.{length-range_with_len}
-use Rattle.pair_colours.specs.Colouring.{PairColouring, points, colour_at}
+use Rattle.pair_colours.specs.Colouring.{PairColouring, FitsColouring, points, colour_at}
 use Rattle.pair_colours.specs.declared.coloured_pairs.TheConstants.{MOST_POINTS}
 use Rattle.pair_colours.specs.Naming.{rank_of}
 use Rattle.pair_colours.proofs.Counts.{sum_by_add}
 use Rattle.pair_colours.specs.IntersectionNumber.{intersection_number, pair_of_class}
 use Rattle.pair_colours.proofs.SortedLists.{In, In-points_from}
 use Rattle.pair_colours.proofs.SubsetLemmas.{In-filter_from}
-use Rattle.struct_consts.specs.ClassData.{IsConfiguration}
 use Rattle.colour_wl.specs.BlockSums.{product_at}
 use Rattle.colour_wl.proofs.Sums.{sum_by_zero}
 use Rattle.good_subsets.specs.Products.{IsTable}
@@ -50,8 +48,8 @@ sums_exchanged f xs (y ∷ ys) =
 all_in : (P : ℕ → Type 0) (xs : List ℕ) → ((x : ℕ) → P x) → All P xs
 all_in P xs h = λ k d l. h (get_or xs k d)
 
-number_small : (K : PairColouring) → IsConfiguration K → (i j k : ℕ) → intersection_number K i j k ≤ MOST_POINTS
-number_small K h i j k = omega (arith, count_by-le-length (λ z. (colour_at K (pair_of_class K k).0 z == i) && (colour_at K z (pair_of_class K k).1 == j)) (points K.size), length-range_with_len 0 K.size, h.fits.limit)
+number_small : (K : PairColouring) → FitsColouring K → (i j k : ℕ) → intersection_number K i j k ≤ MOST_POINTS
+number_small K f i j k = omega (arith, count_by-le-length (λ z. (colour_at K (pair_of_class K k).0 z == i) && (colour_at K z (pair_of_class K k).1 == j)) (points K.size), length-range_with_len 0 K.size, f.limit)
 
 length-block : (n : ℕ) (heads : List ℕ) (x : ℕ) → length (block_at n heads x) ≤ n
 length-block n heads x = omega (arith, length-filter (λ c. slice_index heads c == x) (points n), count_by-le-length (λ c. slice_index heads c == x) (points n), length-range_with_len 0 n)
@@ -59,7 +57,7 @@ length-block n heads x = omega (arith, length-filter (λ c. slice_index heads c 
 in_block : (n : ℕ) (heads : List ℕ) (x c : ℕ) → In c (block_at n heads x) → c < n
 in_block n heads x c m = In-points_from n c (In-filter_from (λ d. slice_index heads d == x) (points n) c m).1
 
-module _ (K : PairColouring) (h : IsConfiguration K) (small : rank_of K ≤ 16) (table : List ℕ) (t : IsTable K table) (heads : List ℕ) (x : ℕ) (rows sums : List ℕ)
+module _ (K : PairColouring) (f : FitsColouring K) (small : rank_of K ≤ 16) (table : List ℕ) (t : IsTable K table) (heads : List ℕ) (x : ℕ) (rows sums : List ℕ)
     (r : (p : ℕ) → p < 256 → slice_index rows p ≡ sum_by (λ i. slice_index table (i * 256 + p)) (block_at (rank_of K) heads x) % 2 ^ 32)
     (s : (y k : ℕ) → y < 16 → k < 16 → slice_index sums (y * 16 + k) ≡ sum_by (λ j. slice_index rows (j * 16 + k)) (block_at (rank_of K) heads y) % 2 ^ 32) where
   -- the sum of constants at a right colour, which is small
@@ -67,7 +65,7 @@ module _ (K : PairColouring) (h : IsConfiguration K) (small : rank_of K ≤ 16) 
   rows_exact j k lj lk =
       let left : List ℕ = block_at (rank_of K) heads x in
       let total : ℕ = sum_by (λ i. intersection_number K i j k) left in
-      let few : total ≤ length left * MOST_POINTS = sum_by-le (λ i. intersection_number K i j k) MOST_POINTS left (all_in (λ i. intersection_number K i j k ≤ MOST_POINTS) left (λ i. number_small K h i j k)) in
+      let few : total ≤ length left * MOST_POINTS = sum_by-le (λ i. intersection_number K i j k) MOST_POINTS left (all_in (λ i. intersection_number K i j k ≤ MOST_POINTS) left (λ i. number_small K f i j k)) in
       let low : total < 2 ^ 32 = omega (arith, few, length-block (rank_of K) heads x, small) in
       r (j * 16 + k) (omega (arith, lj, lk, small))
       ∙ ap (λ m. m % 2 ^ 32) (sum_by_agree_in (λ i. slice_index table (i * 256 + (j * 16 + k))) (λ i. intersection_number K i j k) left
@@ -79,7 +77,7 @@ module _ (K : PairColouring) (h : IsConfiguration K) (small : rank_of K ≤ 16) 
   row_few : (j k : ℕ) → j < rank_of K → k < rank_of K → slice_index rows (j * 16 + k) ≤ 16 * MOST_POINTS
   row_few j k lj lk =
       let left : List ℕ = block_at (rank_of K) heads x in
-      let few : sum_by (λ i. intersection_number K i j k) left ≤ length left * MOST_POINTS = sum_by-le (λ i. intersection_number K i j k) MOST_POINTS left (all_in (λ i. intersection_number K i j k ≤ MOST_POINTS) left (λ i. number_small K h i j k)) in
+      let few : sum_by (λ i. intersection_number K i j k) left ≤ length left * MOST_POINTS = sum_by-le (λ i. intersection_number K i j k) MOST_POINTS left (all_in (λ i. intersection_number K i j k ≤ MOST_POINTS) left (λ i. number_small K f i j k)) in
       omega (arith, rows_exact j k lj lk, few, length-block (rank_of K) heads x, small)
 
   -- the coefficient of the product

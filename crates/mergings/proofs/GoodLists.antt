@@ -1,17 +1,16 @@
 -- Good masks by their least colours.
-use Rattle.std.proofs.Common.{◌≡◌, ◌⊎◌, ℕ, zero, suc, ◌+◌, ◌^◌, ◌<◌, ◌≤◌, true, false, List, [], ◌∷◌, ◌++◌, length, map, take, get_or, slice_index, inl, inr, ⊎_elim, refl, sym, ap, subst, ◌∙◌, arith}
+use Rattle.std.proofs.Common.{◌≡◌, ℕ, zero, suc, ◌+◌, ◌^◌, ◌<◌, ◌≤◌, false, List, [], ◌∷◌, ◌++◌, length, map, slice_index, ⊎_elim, refl, sym, ap, subst, ◌∙◌, arith}
 use Rattle.std.specs.Int.{bit_at, trailing_zeros, w32}
 use Rattle.std.proofs.lemmas.Bool.{cases_lt, cases_Bool, both_ways}
-use Rattle.std.proofs.lemmas.List.{length_push, get_or_push, get_or_append_left, get_or-take, length-take-le, get_or-map, take_all}
+use Rattle.std.proofs.lemmas.List.{length_push, get_or_push, get_or_append_left}
 use Rattle.std.proofs.lemmas.Nat.Bits.{bit_at-trailing_zeros, bit_at-zero}
 use Rattle.std.specs.Int.Count.{trailing_of_zero}
-use Rattle.pair_colours.specs.Colouring.{PairColouring, points}
+use Rattle.pair_colours.specs.Colouring.{PairColouring}
 use Rattle.pair_colours.specs.Naming.{rank_of}
 use Rattle.pair_colours.specs.Subsets.{subsets, bit_number}
 use Rattle.pair_colours.proofs.SortedLists.{In, In-map, In-points_from}
 use Rattle.pair_colours.proofs.SubsetLemmas.{filtered_listed, subsets_are_all}
 use Rattle.colour_wl.specs.BlockSums.{places_of}
-use Rattle.colour_wl.specs.Fusions.{IsFusion}
 use Rattle.good_subsets.specs.GoodSets.{IsBlock, IsGood, AreGoodNumbers}
 use Rattle.good_subsets.proofs.BlockPlaces.{In-places_of_from}
 use Rattle.good_subsets.proofs.Blocks.{own_block, good_listed}

@@ -1,5 +1,5 @@
 -- Blocks of colours by their heads.
-use Rattle.std.proofs.Common.{◌≡◌, ◌==◌, ◌⊎◌, ◌↔◌, ℕ, ◌+◌, ◌<◌, ◌≤◌, Bool, true, false, bit_and, List, length, filter, slice_index, inl, inr, ⊎_elim, refl, sym, ap, subst, ◌∙◌, arith}
+use Rattle.std.proofs.Common.{◌≡◌, ◌==◌, ◌↔◌, ℕ, ◌<◌, ◌≤◌, true, false, bit_and, List, length, filter, slice_index, ⊎_elim, sym, ap, subst, ◌∙◌, arith}
 use Rattle.std.specs.Int.Bits.{bit_or}
 use Rattle.std.proofs.lemmas.Bool.{cases_lt, cases_Bool, eqb-true, eq-eqb, both_ways}
 use Rattle.std.proofs.lemmas.Bool.Decides.{Decides-eqb, Decides-like, same_from_decides}
@@ -12,12 +12,13 @@ use Rattle.colour_wl.specs.Fusions.{IsFusion}
 use Rattle.colour_wl.proofs.Merged.{blocks_from_coherent}
 use Rattle.good_subsets.specs.GoodSets.{IsBlock}
 use Rattle.good_subsets.specs.Transposed.{IsTurned}
-use Rattle.good_subsets.proofs.BlockPlaces.{is_in-places_of, filter_points_agree}
+use Rattle.good_subsets.proofs.BlockPlaces.{is_in-places_of}
 use Rattle.good_subsets.proofs.Blocks.{transposes_block, transposed-below}
 use Rattle.visitors.specs.Masks.{is_member, members_of}
 use Rattle.visitors.proofs.MaskSets.{is_in-members_of}
-use Rattle.mergings.specs.Searches.{block_at, AreHeads, HasBlocks, IsHead, AreConstant, IsSoundAt, AreSound, IsJoined, IsLeast, IsExtended}
+use Rattle.mergings.specs.Searches.{block_at, AreHeads, HasBlocks, IsHead, AreConstant, AreSound, IsJoined, IsLeast, IsExtended}
 use Rattle.mergings.proofs.Unions.{union_left, union_right, union_cases, union_none, no_common, no_members}
+use Rattle.pair_colours.proofs.ListLemmas.{filter_points_agree}
 
 -- a block as a mask: two colours are in it exactly where it has the number
 pub block_number : (n : ℕ) (a : List ℕ) (mask : ℕ) → length a ≡ n → (b : IsBlock a (members_of n mask)) → (c : ℕ) → c < n → is_member mask c ≡ (slice_index a c == b.number)

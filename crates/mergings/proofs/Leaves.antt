@@ -1,6 +1,6 @@
 -- The string of blocks that cover all colours.
-use Rattle.std.proofs.Common.{◌≡◌, ◌==◌, ◌⊎◌, ℕ, ◌<◌, Bool, true, false, List, [], ◌∷◌, length, filter, slice_index, inl, inr, ⊎_elim, refl, sym, ap, subst, ◌∙◌, arith}
-use Rattle.std.proofs.lemmas.Bool.{eqb-true, eq-eqb}
+use Rattle.std.proofs.Common.{◌≡◌, ◌==◌, ◌⊎◌, ℕ, ◌<◌, true, false, List, [], ◌∷◌, length, filter, slice_index, inl, inr, ⊎_elim, refl, sym, ap, subst, ◌∙◌, arith}
+use Rattle.std.proofs.lemmas.Bool.{eqb-true}
 use Rattle.std.proofs.lemmas.Bool.Decides.{Decides-eqb, Decides-like, same_from_decides}
 use Rattle.pair_colours.specs.Colouring.{PairColouring, points}
 use Rattle.pair_colours.specs.Naming.{rank_of}
@@ -12,11 +12,11 @@ use Rattle.colour_wl.specs.GrowthStrings.{IsGrowth}
 use Rattle.colour_wl.proofs.Classes.{pair_of_class-holds}
 use Rattle.colour_wl.proofs.Merged.{transposed-everywhere, coherent_from_blocks}
 use Rattle.colour_wl.proofs.SameStrings.{same_strings}
-use Rattle.good_subsets.proofs.BlockPlaces.{filter_points_agree}
 use Rattle.good_subsets.proofs.Blocks.{transposed-below}
 use Rattle.good_subsets.proofs.MaskBits.{find_below}
 use Rattle.visitors.specs.Masks.{is_member}
 use Rattle.mergings.specs.Searches.{block_at, AreHeads, HasBlocks, IsHead, AreConstant, AreSound, IsOfHeads}
+use Rattle.pair_colours.proofs.ListLemmas.{filter_points_agree}
 
 filter_none : (xs : List ℕ) → filter (λ _. false) xs ≡ []
 filter_none [] = refl

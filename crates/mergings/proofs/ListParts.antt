@@ -1,17 +1,16 @@
 -- The list in pieces, each resumed after the last string of the one before it.
-use Rattle.std.proofs.Common.{◌≡◌, ◌⊎◌, ℕ, zero, suc, ◌+◌, ◌-◌, ◌<◌, ◌≤◌, List, [], ◌∷◌, ◌++◌, length, take, drop, get_or, All, Option, None, Some, Bor, inl, inr, ⊎_elim, refl, sym, ap, subst, ◌∙◌, arith, append_assoc, take-append-drop}
-use Rattle.std.proofs.lemmas.List.{take_all, take_at, take_more, get_or_default, length_push}
-use Rattle.pair_colours.specs.Colouring.{PairColouring, colour_at}
+use Rattle.std.proofs.Common.{◌≡◌, ℕ, zero, suc, ◌+◌, ◌<◌, ◌≤◌, List, [], ◌∷◌, ◌++◌, length, take, drop, get_or, All, Option, None, Some, Bor, inl, inr, ⊎_elim, refl, sym, ap, subst, ◌∙◌, arith, append_assoc, take-append-drop}
+use Rattle.std.proofs.lemmas.List.{take_all, take_at, take_more, get_or_default}
+use Rattle.pair_colours.specs.Colouring.{PairColouring}
 use Rattle.pair_colours.specs.Naming.{rank_of}
 use Rattle.pair_colours.specs.Those.{AreThose}
-use Rattle.pair_colours.proofs.SortedLists.{In, In-append_left, In-append_right, In-append_cases, Ordered, each_in}
+use Rattle.pair_colours.proofs.SortedLists.{In, In-append_right, In-append_cases, Ordered, each_in}
 use Rattle.pair_colours.proofs.ThoseLemmas.{those_hold, those_has, those_in_order, those_unique, those_same}
 use Rattle.struct_consts.specs.ClassData.{IsConfiguration}
 use Rattle.visitors.specs.Entries.{IsEntry}
 use Rattle.visitors.specs.Lists.{IsFront, IsCut}
-use Rattle.visitors.proofs.MaskSets.{In-place}
 use Rattle.colour_wl.specs.GrowthStrings.{IsGrowth, growth_strings, IsBefore}
-use Rattle.colour_wl.specs.Fusions.{Fuses, FusesAfter, IsFusions, IsFusionsAfter}
+use Rattle.colour_wl.specs.Fusions.{Fuses, FusesAfter, IsFusionsAfter}
 use Rattle.colour_wl.proofs.Classes.{colour_at-below}
 use Rattle.colour_wl.proofs.ColourRounds.{growth_low}
 use Rattle.colour_wl.proofs.Existing.{fusions_exist, fusions_after_exist}
@@ -85,7 +84,7 @@ In-own (x ∷ xs) zero d l = inl refl
 In-own (x ∷ xs) (suc k) d l = inr (In-own xs k d (omega (arith, l)))
 
 pub some_colour : (K : PairColouring) → IsConfiguration K → 1 ≤ rank_of K
-some_colour K h = let z : 0 < K.size = omega (arith, h.fits.colouring.has_points) in omega (arith, colour_at-below K h 0 0 z z)
+some_colour K h = let z : 0 < K.size = omega (arith, h.colouring.has_points) in omega (arith, colour_at-below K h 0 0 z z)
 
 pub piece_entries : (K : PairColouring) → IsConfiguration K → rank_of K ≤ 16 → (after : Option (Bor (List ℕ))) (n : ℕ) (met : List (List ℕ)) → IsListCut (IsMergings K after) n met → All IsEntry met
 piece_entries K h small after n met p k d l =

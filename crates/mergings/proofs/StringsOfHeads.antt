@@ -1,8 +1,8 @@
 -- The string of heads, number by number.
-use Rattle.std.proofs.Common.{◌≡◌, ◌↔◌, ℕ, ◌+◌, ◌<◌, ◌≤◌, List, [], ◌∷◌, ◌++◌, length, slice_index, ⊎_elim, refl, sym, ap, ◌∙◌, arith}
+use Rattle.std.proofs.Common.{◌≡◌, ◌↔◌, ℕ, ◌<◌, ◌≤◌, List, [], ◌∷◌, ◌++◌, length, slice_index, ⊎_elim, sym, ap, ◌∙◌, arith}
 use Rattle.std.proofs.lemmas.Bool.{cases_lt}
 use Rattle.std.proofs.lemmas.List.{length_push, get_or_push, get_or_append_left}
-use Rattle.colour_wl.specs.GrowthStrings.{next_number, IsGrowth}
+use Rattle.colour_wl.specs.GrowthStrings.{next_number}
 use Rattle.colour_wl.proofs.Growth.{next_above}
 use Rattle.mergings.specs.Searches.{AreHeads, IsOfHeads}
 

@@ -1,5 +1,5 @@
 -- What a search for fusions with given blocks finds.
-use Rattle.std.specs.Prelude.{◌≡◌, ◌==◌, ◌⊎◌, ◌↔◌, ℕ, ◌+◌, ◌^◌, ◌<◌, ◌≤◌, Bool, true, false, List, [], length, filter, get_or, take, slice_index, Contains}
+use Rattle.std.specs.Prelude.{◌≡◌, ◌==◌, ◌⊎◌, ◌↔◌, ℕ, ◌+◌, ◌^◌, ◌<◌, ◌≤◌, true, false, List, [], length, filter, get_or, take, slice_index, Contains}
 use Rattle.pair_colours.specs.Colouring.{PairColouring, points}
 use Rattle.pair_colours.specs.Naming.{rank_of}
 use Rattle.colour_wl.specs.BlockSums.{product_at, transposed, IsDiagonalColour}

@@ -13,7 +13,7 @@ ghost use Rattle.mergings.specs.Searches.{AreByLeast};
 
 use crate::met::Met;
 use crate::searching::extensions;
-use colour_wl::is_fusion;
+use colour_wl::{is_fusion, next_of};
 use pair_colours::NoMemory;
 use std::alloc::Global;
 use struct_consts::Constants;
@@ -110,21 +110,6 @@ pub(crate) fn first_fusions(
     let mut string = Vec::new(alloc);
     deliver(alloc, k, table, goods, room, 0, &mut string, met)?;
     Ok(())
-}
-
-// The least number above all of a growth string.
-fn next_of(string: &[u32]) -> u32
-    requires growth { IsGrowth (length string.now) string.now }
-    requires short { length string.now < 2 ^ 32 }
-    ensures { result ≡ next_number string.now }
-{
-    let mut next = 0;
-    for i in 0..string.len() {
-        if string[i] == next {
-            next += 1;
-        }
-    }
-    next
 }
 
 // Delivers the fusions that begin with the first numbers of `after` and have a greater one next.

@@ -26,6 +26,3 @@ mod searching;
 
 pub use faults::MergeFault;
 pub use listing::mergings;
-
-#[cfg(test)]
-mod tests;

@@ -14,7 +14,8 @@ use Rattle.pair_colours.specs.Naming.{walk, first_met, colours_met, name_of, nam
 filter-le : {X : Type 0} (p : X → Bool) (xs : List X) → length (filter p xs) ≤ length xs
 filter-le p xs = omega (arith, length-filter p xs, count_by-le-length p xs)
 
-first_met-le : (xs : List ℕ) → length (first_met xs) ≤ length xs
+-- there are no more different numbers than numbers
+pub first_met-le : (xs : List ℕ) → length (first_met xs) ≤ length xs
 first_met-le [] = omega arith
 first_met-le (x ∷ xs) = omega (arith, first_met-le xs, filter-le (λ y. not (x == y)) (first_met xs))
 

@@ -13,7 +13,7 @@ pub mod Walked
 pub mod Few
 pub mod ListReads
 pub mod FirstPair
-mod Meets
+pub mod Meets
 pub mod NumberedLists
 pub mod Writes
 mod SquareRows
@@ -26,3 +26,7 @@ pub mod SortedLists
 pub mod ThoseLemmas
 pub mod SubsetLemmas
 pub mod TestLemmas
+pub mod Below
+pub mod SameColours
+pub mod MetNumbers
+pub mod SingleCounts

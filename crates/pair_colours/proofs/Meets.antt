@@ -6,6 +6,23 @@ use Rattle.pair_colours.specs.Naming.{named_of, IsNamedMeet}
 use Rattle.pair_colours.proofs.Places.{place_below, Refines-trans}
 use Rattle.pair_colours.proofs.ListReads.{Refines-from_lists}
 use Rattle.pair_colours.proofs.Closures.{IsColouring-named_of, named_of-refines, refines-named_of, named_of-named_of}
+use Rattle.pair_colours.proofs.Names.{named_of-same}
+
+-- what refines both refines the meet
+pub meet_below : (Q A B M : PairColouring) → IsNamedMeet A B M → Refines Q A → Refines Q B → Refines Q M
+meet_below Q A B M m r s = record {
+  sizes = r.sizes ∙ sym m.first.sizes;
+  classes = λ x y u v hx hy hu hv e.
+      m.together x y u v (to x hx) (to y hy) (to u hu) (to v hv) (r.classes x y u v hx hy hu hv e) (s.classes x y u v hx hy hu hv e);
+}
+  where
+    to : (z : ℕ) → z < Q.size → z < M.size
+    to z l = omega (arith, l, r.sizes, m.first.sizes)
+
+-- there is one named meet
+pub IsNamedMeet-unique : (A B M N : PairColouring) → IsNamedMeet A B M → IsNamedMeet A B N → M ≡ N
+IsNamedMeet-unique A B M N m n =
+    sym m.named ∙ named_of-same M N m.colouring n.colouring (meet_below M A B N n m.first m.second) (meet_below N A B M m n.first n.second) ∙ n.named
 
 -- numbers for the pairs of colours give the meet, once they are named
 pub IsNamedMeet-numbered : (A B M : PairColouring) (codes : List ℕ) → FitsColouring A → FitsColouring B → A.size ≡ B.size → M.size ≡ A.size

@@ -6,7 +6,7 @@ use Rattle.std.proofs.lemmas.Map.Views.{any-filter_same}
 use Rattle.pair_colours.specs.Colouring.{PairColouring, colour_at}
 use Rattle.pair_colours.specs.Naming.{walk, first_met, colours_met, name_of, first_place_of}
 use Rattle.pair_colours.proofs.Counts.{unit_of, count_by-cons}
-use Rattle.pair_colours.proofs.ListLemmas.{Each-filter, Each-weaker}
+use Rattle.pair_colours.proofs.ListLemmas.{Each-filter, Each-weaker, Each-passed}
 
 -- the first place of a number in a list
 abbrev place_in : List ℕ → ℕ → ℕ
@@ -27,15 +27,6 @@ abbrev Rises : (ℕ → ℕ) → List ℕ → Type 0
 Rises key [] = Unit {0}
 Rises key (k ∷ ks) = AllByRecursion (λ y. key k < key y) ks × Rises key ks
 
--- what passes a filter has passed its test, and what held of it before
-Each-passed : (q : ℕ → Bool) (P : ℕ → Type 0) (ks : List ℕ) → AllByRecursion P ks → AllByRecursion (λ y. P y × (q y ≡ true)) (filter q ks)
-Each-passed q P [] a = tt
-Each-passed q P (k ∷ ks) a = by (q k) refl (Each-passed q P ks a.1)
-  where
-    by : (b : Bool) → q k ≡ b → AllByRecursion (λ y. P y × (q y ≡ true)) (filter q ks) → AllByRecursion (λ y. P y × (q y ≡ true)) (filter q (k ∷ ks))
-    by true e r = subst (λ b. AllByRecursion (λ y. P y × (q y ≡ true)) (cond b (k ∷ filter q ks) (filter q ks))) (sym e) ((a.0, e), r)
-    by false e r = subst (λ b. AllByRecursion (λ y. P y × (q y ≡ true)) (cond b (k ∷ filter q ks) (filter q ks))) (sym e) r
-
 -- a filter keeps rising keys, also where what passes has keys of one more
 Rises-filter : (key more : ℕ → ℕ) (q : ℕ → Bool) → ((y : ℕ) → q y ≡ true → more y ≡ 1 + key y) → (ks : List ℕ) → Rises key ks → Rises more (filter q ks)
 Rises-filter key more q next [] r = tt
@@ -43,7 +34,7 @@ Rises-filter key more q next (k ∷ ks) r = by (q k) refl (Rises-filter key more
   where
     by : (b : Bool) → q k ≡ b → Rises more (filter q ks) → Rises more (filter q (k ∷ ks))
     by true e again =
-        let above = Each-weaker (λ y. (key k < key y) × (q y ≡ true)) (λ y. more k < more y) (λ y h. omega (arith, h.0, next y h.1, next k e)) (filter q ks) (Each-passed q (λ y. key k < key y) ks r.0) in
+        let above = Each-weaker (λ y. (key k < key y) × (q y ≡ true)) (λ y. more k < more y) (λ y h. omega (arith, h.0, next y h.1, next k e)) (filter q ks) (Each-passed (λ y. key k < key y) q ks r.0) in
         subst (λ b. Rises more (cond b (k ∷ filter q ks) (filter q ks))) (sym e) (above, again)
     by false e again = subst (λ b. Rises more (cond b (k ∷ filter q ks) (filter q ks))) (sym e) again
 
@@ -57,7 +48,7 @@ Rises-first_met (x ∷ xs) =
     let next : (y : ℕ) → not (x == y) ≡ true → place_in (x ∷ xs) y ≡ 1 + place_in xs y = λ y h. place_in-tail x y xs (differs x y h) in
     let some : AllByRecursion (λ _. Unit {0}) (first_met xs) = all_unit (first_met xs) in (
       Each-weaker (λ y. Unit {0} × (not (x == y) ≡ true)) (λ y. place_in (x ∷ xs) x < place_in (x ∷ xs) y)
-          (λ y h. omega (arith, next y h.1, place_in-head x x xs refl)) (filter (λ y. not (x == y)) (first_met xs)) (Each-passed (λ y. not (x == y)) (λ _. Unit {0}) (first_met xs) some),
+          (λ y h. omega (arith, next y h.1, place_in-head x x xs refl)) (filter (λ y. not (x == y)) (first_met xs)) (Each-passed (λ _. Unit {0}) (λ y. not (x == y)) (first_met xs) some),
       Rises-filter (place_in xs) (place_in (x ∷ xs)) (λ y. not (x == y)) next (first_met xs) (Rises-first_met xs),
     )
   where

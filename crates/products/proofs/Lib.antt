@@ -4,5 +4,4 @@ mod Sums
 mod Fusions
 mod Products
 mod Filling
-mod OnePoint
 pub mod LawProofs

@@ -11,7 +11,5 @@
 mod labelling;
 pub mod laws;
 mod multiplying;
-#[cfg(test)]
-mod tests;
 
 pub use multiplying::{ProductFault, direct, wreath};

@@ -8,5 +8,4 @@ mod Fibres
 mod Quotients
 mod Subschemes
 mod Wholes
-mod OnePoint
 pub mod LawProofs

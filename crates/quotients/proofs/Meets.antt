@@ -4,9 +4,8 @@ use Rattle.std.proofs.lemmas.Bool.{eq-eqb, and_from}
 use Rattle.pair_colours.specs.Colouring.{PairColouring, colour_at, triangles}
 use Rattle.pair_colours.specs.Closure.{Coherent}
 use Rattle.pair_colours.specs.ClosedSet.{IsClosedSet}
-use Rattle.pair_colours.proofs.Counts.{triangle_point}
+use Rattle.pair_colours.proofs.Counts.{triangle_point, counted}
 use Rattle.quotients.specs.Quotient.{IsMet, MeetSame}
-use Rattle.quotients.proofs.Points.{counted}
 
 pub MeetSame-sym : (K : PairColouring) (S : ℕ → Bool) (x y u v : ℕ) → MeetSame K S x y u v → MeetSame K S u v x y
 MeetSame-sym K S x y u v m = record { colours = λ c. ((m.colours c).1, (m.colours c).0) }

@@ -1,15 +1,15 @@
 -- The points that pass a test, the first of them, and counts of them.
 use Rattle.std.proofs.Common.{append-nil, ◌≡◌, ◌==◌, ◌&&◌, ℕ, ◌+◌, ◌<◌, ◌≤◌, Bool, true, false, cond, List, [], ◌∷◌, ◌++◌, length, get_or, map, filter, count_by, All, refl, sym, ap, ◌∙◌, arith}
-use Rattle.std.specs.List.{AllByRecursion, list_any, position_or_len, AllPairs}
+use Rattle.std.specs.List.{list_any, position_or_len, AllPairs}
 use Rattle.std.proofs.lemmas.Bool.{ne_eqb, eq-eqb, eqb-true, and_from}
 use Rattle.std.proofs.lemmas.List.Elements.{filter-append, filter_passes, All-filter, All-get_or, All-from_get_or}
 use Rattle.std.proofs.lemmas.List.FromFn.{get_or-range_with_len, length-range_with_len, length-map-range_with_len, get_or-map-range_with_len}
 use Rattle.std.proofs.lemmas.Grind.{same_number_lists}
 use Rattle.std.proofs.lemmas.List.Kept.{AllPairs-filter}
-use Rattle.std.proofs.lemmas.List.Sums.{position_or_len_is, passes_at_first, fails_before_first, sum_by-remove, count_by-le-length, length-filter}
+use Rattle.std.proofs.lemmas.List.Sums.{position_or_len_is, passes_at_first, fails_before_first, count_by-le-length, length-filter}
 use Rattle.pair_colours.specs.Colouring.{points}
-use Rattle.pair_colours.proofs.Counts.{unit_of, points_more, count_by-cons, count_by-map}
-use Rattle.pair_colours.proofs.ListLemmas.{list_any-points, list_any-filter, Each-points, Each-weaker}
+use Rattle.pair_colours.proofs.Counts.{points_more, count_by-map}
+use Rattle.pair_colours.proofs.ListLemmas.{list_any-points, list_any-filter}
 use Rattle.pair_colours.proofs.NumberedLists.{any_position}
 
 pub at_point : (n z : ℕ) → z < n → get_or (points n) z 0 ≡ z
@@ -87,30 +87,6 @@ filtered_has t n z l e =
     list_any-filter (λ c. c == z) t (points n) ∙ list_any-points (λ c. t c && (c == z)) n z l (and_from (t z) (z == z) e (eq-eqb z z refl)) in
     let low = any_position (λ c. c == z) xs met in
     (low, eqb-true (get_or xs (position_or_len (λ c. c == z) xs) 0) z (passes_at_first (λ c. c == z) xs 0 low))
-
--- a point that passes is counted
-pub counted : (t : ℕ → Bool) (n z : ℕ) → z < n → t z ≡ true → 0 < count_by t (points n)
-counted t n z l e =
-    let r = sum_by-remove (λ y. unit_of (t y)) (points n) z 0 (omega (arith, l, length-range_with_len 0 n)) in
-    let one : unit_of (t (get_or (points n) z 0)) ≡ 1 = ap unit_of (ap t (at_point n z l) ∙ e) in
-    omega (arith, r, one)
-
--- tests that agree on the points pass the same points
-pub filter_agree_each : (t u : ℕ → Bool) (xs : List ℕ) → AllByRecursion (λ z. t z ≡ u z) xs → filter t xs ≡ filter u xs
-filter_agree_each t u [] a = refl
-filter_agree_each t u (x ∷ xs) a = λ i. cond (a.0 i) (x ∷ filter_agree_each t u xs a.1 i) (filter_agree_each t u xs a.1 i)
-
-pub filter_points_agree : (t u : ℕ → Bool) (n : ℕ) → ((z : ℕ) → z < n → t z ≡ u z) → filter t (points n) ≡ filter u (points n)
-filter_points_agree t u n h = filter_agree_each t u (points n) (Each-weaker (λ z. z < n) (λ z. t z ≡ u z) h (points n) (Each-points n))
-
--- a count over what passes
-pub count_by-filter : (p q : ℕ → Bool) (xs : List ℕ) → count_by q (filter p xs) ≡ count_by (λ z. p z && q z) xs
-count_by-filter p q [] = refl
-count_by-filter p q (x ∷ xs) = by (p x) (count_by-filter p q xs) ∙ sym (count_by-cons (λ z. p z && q z) x xs)
-  where
-    by : (b : Bool) → count_by q (filter p xs) ≡ count_by (λ z. p z && q z) xs → count_by q (cond b (x ∷ filter p xs) (filter p xs)) ≡ unit_of (b && q x) + count_by (λ z. p z && q z) xs
-    by true again = count_by-cons q x (filter p xs) ∙ ap (λ m. unit_of (q x) + m) again
-    by false again = again ∙ omega arith
 
 -- a count over the places of a list
 pub count_places : (q : ℕ → Bool) (xs : List ℕ) → count_by (λ r. q (get_or xs r 0)) (points (length xs)) ≡ count_by q xs

@@ -4,12 +4,12 @@ use Rattle.std.specs.List.{position_or_len}
 use Rattle.std.proofs.lemmas.Bool.{eqb-true, eq-eqb, and_parts, and_from}
 use Rattle.pair_colours.specs.Colouring.{PairColouring, Refines, colour_at, points, triangles}
 use Rattle.pair_colours.specs.Closure.{Coherent}
-use Rattle.pair_colours.proofs.Counts.{unit_of, sum_by_points_agree, count_by_points}
+use Rattle.pair_colours.proofs.Counts.{unit_of, sum_by_points_agree, count_by_points, counted}
 use Rattle.pair_colours.proofs.Exists.{by_pairs, colour_at-by_pairs}
 use Rattle.pair_colours.proofs.Rounds.{alike_in}
 use Rattle.quotients.specs.Quotient.{IsMet, MeetSame, least_of, classes, Quotient}
 use Rattle.quotients.specs.Law.{IsParted}
-use Rattle.quotients.proofs.Points.{filtered_place, filtered_has, counted}
+use Rattle.quotients.proofs.Points.{filtered_place, filtered_has}
 use Rattle.quotients.proofs.Leasts.{bool_same, least_in, least_same, least_least}
 use Rattle.quotients.proofs.Meets.{MeetSame-sym, MeetSame-trans, alike_meet_same, class_meet_same, met_self}
 use Rattle.quotients.proofs.Tellings.{first_at}

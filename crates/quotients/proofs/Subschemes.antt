@@ -5,11 +5,11 @@ use Rattle.std.proofs.lemmas.Bool.{eqb-true, and_parts, and_from, cases_Bool}
 use Rattle.pair_colours.specs.Colouring.{PairColouring, colour_at, points, triangles}
 use Rattle.pair_colours.specs.Closure.{Coherent}
 use Rattle.pair_colours.proofs.Closures.{Coherent-same}
-use Rattle.pair_colours.proofs.Counts.{count_by_points}
+use Rattle.pair_colours.proofs.Counts.{count_by_points, count_by-filter}
 use Rattle.quotients.specs.Quotient.{class_of, Subscheme}
 use Rattle.quotients.specs.Steps.{IsPicked}
 use Rattle.quotients.specs.Law.{IsParted}
-use Rattle.quotients.proofs.Points.{filtered_at, filtered_has, filtered_place, count_by-filter, count_places}
+use Rattle.quotients.proofs.Points.{filtered_at, filtered_has, filtered_place, count_places}
 use Rattle.quotients.proofs.Leasts.{bool_same}
 use Rattle.quotients.proofs.Tellings.{part_exists}
 use Rattle.pair_colours.proofs.Exists.{by_pairs}
@@ -46,7 +46,7 @@ module _ (K : PairColouring) (S : ℕ → Bool) (x : ℕ) (p : IsParted K S) (hx
       (λ w l. λ k. (r.is s w (down s hs) (down w l) k == i) && (r.is w t (down w l) (down t ht) k == j))
       ∙ ap (λ n. count_by (λ w. test (get_or c w 0)) (points n)) r.size
       ∙ count_places test c
-      ∙ count_by-filter (λ y. S (colour_at K x y)) test (points K.size)
+      ∙ count_by-filter test (λ y. S (colour_at K x y)) (points K.size)
       ∙ count_by_points (λ z. S (colour_at K x z) && test z) (λ z. S i && test z) K.size
       (λ z hz. bool_same _ _
       (λ e. let w = and_parts _ _ e in let u = and_parts _ _ w.1 in and_from _ _ (sym (same_side s z i hs hz (eqb-true _ _ u.0)) ∙ w.0) w.1)

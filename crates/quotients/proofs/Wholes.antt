@@ -5,11 +5,12 @@ use Rattle.pair_colours.specs.Colouring.{PairColouring, colour_at, points}
 use Rattle.quotients.specs.Quotient.{least_of, classes, class_of, Quotient, Subscheme}
 use Rattle.quotients.specs.Steps.{AreLeasts, IsLeastMet, IsPicked, IsNamedPart, IsDivided, IsCutOut}
 use Rattle.quotients.specs.Law.{IsParted}
-use Rattle.quotients.proofs.Points.{filter_points_agree, filtered_below, filtered_few}
+use Rattle.quotients.proofs.Points.{filtered_below, filtered_few}
 use Rattle.quotients.proofs.Leasts.{bool_same, member_tells}
 use Rattle.quotients.proofs.Namings.{subscheme_from_picked, quotient_from_picked}
 use Rattle.quotients.proofs.Tellings.{some_class, tells_from_least}
 use Rattle.quotients.proofs.Subschemes.{some_member}
+use Rattle.pair_colours.proofs.ListLemmas.{filter_points_agree}
 
 -- the points that stand for themselves in a list of least points, and those that stand as x does
 abbrev pub firsts_in : List ℕ → List ℕ

@@ -17,7 +17,5 @@ pub mod laws;
 mod meeting;
 mod parts;
 mod picking;
-#[cfg(test)]
-mod tests;
 
 pub use dividing::{QuotientFault, quotient, subscheme};

@@ -1,5 +1,5 @@
 -- Alike histories refuse alike and accept alike, and no move is both accepted and refused.
-use Rattle.std.proofs.Common.{ℕ, ◌≡◌, ◌==◌, ⊎_elim, ◌+◌, ◌++◌, List, [], ◌∷◌, length, get_or, map, take, Some, None, refl, sym, ap, subst, ◌∙◌, arith}
+use Rattle.std.proofs.Common.{ℕ, ◌≡◌, ⊎_elim, ◌+◌, ◌++◌, List, [], ◌∷◌, length, get_or, map, take, Some, None, refl, sym, ap, subst, ◌∙◌, arith}
 use Rattle.std.proofs.lemmas.List.{length-map, get_or-map, map-append, take-map}
 use Rattle.pair_colours.specs.Colouring.{PairColouring, Refines}
 use Rattle.pair_colours.specs.Closure.{IsClosureOf}
@@ -12,7 +12,6 @@ use Rattle.recolour_bench.specs.Steps.{Move, edits, undoes, redoes, edit_refusal
 use Rattle.recolour_bench.specs.Law.{StartIsUnique, StepIsUnique, NotBoth, RefusalIsUnique, RefusalIsAlike, PresentIsUnique, ChainIsUnique}
 use Rattle.recolour_bench.proofs.OwnClosures.{closure_is_one}
 use Rattle.recolour_bench.proofs.RawEdits.{made_is_unique}
-use Rattle.recolour_bench.proofs.Stepping.{present_is_raw}
 
 -- the colours of the stages of an entry
 abbrev colours_of : Entry → List PairColouring

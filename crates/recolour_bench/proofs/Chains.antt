@@ -14,12 +14,13 @@ use Rattle.trace_text.specs.Acceptance.{Accepts}
 use Rattle.trace_text.specs.RoundChains.{AreFollowing}
 use Rattle.trace_text.specs.Versions.{HasStep, IsVersioned}
 use Rattle.trace_text.proofs.Leads.{lead_after}
-use Rattle.trace_text.proofs.Stages.{IsBetween, IsEnd, start_between, end_between, stages_between, chain_end-push, closure_at_end, accepts_more}
+use Rattle.trace_text.proofs.Stages.{start_between, end_between, stages_between, chain_end-push, closure_at_end, accepts_more}
 use Rattle.trace_text.proofs.RoundChains.{following_from_stages}
 use Rattle.trace_text.proofs.Decided.{refines_or_not}
 use Rattle.trace_text.proofs.LawProofs.{steps_exist}
 use Rattle.recolour_bench.specs.EntryChains.{IsChainOf, claim_by}
 use Rattle.recolour_bench.specs.History.{Entry, IsFirstEntry, IsEntryAfter, AreEntriesAfter, AreEntries, no_entry}
+use Rattle.trace_text.specs.Ends.{IsBetween, IsEnd}
 
 -- the colours of the stage are within the limits
 abbrev pub IsRawStage : Stage → Type 0

@@ -1,5 +1,5 @@
 -- What is kept of a history.
-use Rattle.std.proofs.Common.{◌≡◌, ◌==◌, ◌<◌, ◌≤◌, ◌+◌, ◌++◌, ℕ, List, [], ◌∷◌, length, get_or, take, drop, map, Option, Some, None, ⊎_elim, refl, sym, ap, subst, ◌∙◌, arith}
+use Rattle.std.proofs.Common.{◌≡◌, ◌<◌, ◌≤◌, ◌+◌, ◌++◌, ℕ, List, [], ◌∷◌, length, get_or, take, drop, map, Option, Some, None, ⊎_elim, refl, sym, ap, subst, ◌∙◌, arith}
 use Rattle.std.specs.List.{range_with_len}
 use Rattle.std.proofs.lemmas.Bool.{cases_eq}
 use Rattle.std.proofs.lemmas.List.{length-append, length-take, drop-append-le, drop_all, get_or-take, get_or_default, take-append-le, take-take, take_all, same_lists}
@@ -8,13 +8,12 @@ use Rattle.std.proofs.Math.Seq.{get_or-append_seam}
 use Rattle.pair_colours.specs.Colouring.{PairColouring, IsColouring, IsRawColouring, Refines}
 use Rattle.pair_colours.specs.Closure.{Coherent, IsClosureOf}
 use Rattle.pair_colours.specs.Naming.{named_of}
-use Rattle.pair_colours.proofs.Places.{Refines-refl, Refines-trans}
+use Rattle.pair_colours.proofs.Places.{Refines-trans}
 use Rattle.trace_text.specs.declared.stage_list.Stage.{Stage}
 use Rattle.trace_text.specs.Chains.{stage_start, chain_end}
 use Rattle.trace_text.specs.Split.{Lead}
 use Rattle.trace_text.specs.Partition.{meet_of}
-use Rattle.trace_text.proofs.Stages.{IsBetween, IsEnd}
-use Rattle.trace_text.proofs.Meeting.{IsNamedMeet-unique, IsNamedMeet-meet_of}
+use Rattle.trace_text.proofs.Meeting.{IsNamedMeet-meet_of}
 use Rattle.trace_text.proofs.Decided.{refines_or_not}
 use Rattle.wl_refine.specs.Closed.{IsForced}
 use Rattle.recolour_bench.specs.declared.edits.EditFault.{EditFault}
@@ -27,6 +26,8 @@ use Rattle.recolour_bench.specs.Steps.{edits, Makes, IsRefusedAt, EditStep, Redo
 use Rattle.recolour_bench.specs.Kept.{no_stage, no_kept, entry_kept, history_of, IsKeptOf, IsKeptHistory, IsMadeFrom, IsMadeFromMeet}
 use Rattle.recolour_bench.proofs.Chains.{IsOfOneClass, IsSound, MayGoOn, MayGoOn-none, MayGoOn-sound, IsEnd-sound, IsChainOf-made, chain_end-made, sound_at}
 use Rattle.recolour_bench.proofs.Stepping.{IsHistory-edited, start_is_history}
+use Rattle.pair_colours.proofs.Meets.{IsNamedMeet-unique}
+use Rattle.trace_text.specs.Ends.{IsBetween, IsEnd}
 
 -- an entry of a stage and of what is kept, of the stages up to here
 abbrev pub entry_by : List Stage → Stage → Kept → Entry

@@ -12,3 +12,4 @@ mod Alike
 mod Showing
 mod Keeping
 pub mod LawProofs
+mod MadeStages

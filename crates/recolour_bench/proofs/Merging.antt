@@ -1,8 +1,8 @@
 -- The pairs get the colours of a string, place by place.
-use Rattle.std.proofs.Common.{◌≡◌, ℕ, ◌*◌, ◌<◌, ◌≤◌, List, length, get_or, map, slice_index, sym, ap, ◌∙◌, arith}
+use Rattle.std.proofs.Common.{◌≡◌, ℕ, ◌*◌, ◌<◌, ◌≤◌, List, length, get_or, map, slice_index, sym, ◌∙◌, arith}
 use Rattle.std.proofs.lemmas.Grind.{same_number_lists}
 use Rattle.std.proofs.lemmas.List.{length-map, get_or-map}
-use Rattle.pair_colours.specs.Colouring.{PairColouring, IsColouring, colour_at}
+use Rattle.pair_colours.specs.Colouring.{PairColouring, IsColouring}
 use Rattle.struct_consts.specs.ClassData.{IsConfiguration, HasColoursBelow}
 use Rattle.colour_wl.specs.Fusions.{merge}
 use Rattle.colour_wl.proofs.Classes.{colour_at-below}

@@ -1,6 +1,6 @@
 -- Closures of closures, and of products.
 use Rattle.std.proofs.Common.{◌≡◌}
-use Rattle.pair_colours.specs.Colouring.{PairColouring, IsColouring, Refines}
+use Rattle.pair_colours.specs.Colouring.{PairColouring, IsColouring}
 use Rattle.pair_colours.specs.Closure.{Coherent, IsClosureOf}
 use Rattle.pair_colours.specs.Naming.{named_of, IsNamedMeet}
 use Rattle.pair_colours.proofs.LawProofs.{named_closure_is_unique}

@@ -129,14 +129,14 @@ string_grows K string allowed =
     let none = first_that_holds-none (not (grows (rank_of K) string)) NotGrowth [] allowed in
     grows-true (rank_of K) string (not-false (grows (rank_of K) string) none.0)
 
--- a closure within the limits is a configuration
-pub IsConfiguration-closure : (C K : PairColouring) → IsRawColouring C → IsClosureOf K C → IsConfiguration K
-IsConfiguration-closure C K c k = record { fits = (closure_is_raw C K c k).fits; coherent = k.closure.coherent; named = k.named }
+-- a named closure is a configuration
+pub IsConfiguration-closure : (C K : PairColouring) → IsClosureOf K C → IsConfiguration K
+IsConfiguration-closure C K k = record { colouring = k.closure.colouring; coherent = k.closure.coherent; named = k.named }
 
 -- merging by a growth string gives no greater colours
 IsRawColouring-merge : (C K : PairColouring) (string : List ℕ) → IsRawColouring C → IsClosureOf K C → IsGrowth (rank_of K) string → IsRawColouring (merge K string)
 IsRawColouring-merge C K string c k g = record {
-  fits = FitsColouring-merge K (IsConfiguration-closure C K c k) string g;
+  fits = FitsColouring-merge K (closure_is_raw C K c k).fits (IsConfiguration-closure C K k) string g;
   raw = All-map (λ colour. colour ≤ MOST_COLOUR) (slice_index string) K.colours (λ i d l. low (get_or K.colours i d) ((closure_is_raw C K c k).raw i d l));
 }
   where

@@ -9,7 +9,7 @@ use Rattle.trace_text.specs.RoundChains.{AreRoundStages}
 use Rattle.trace_text.proofs.LawProofs as traces
 use Rattle.recolour_bench.specs.declared.history.TheConstants.{MOST_POSITION}
 use Rattle.recolour_bench.specs.EntryChains.{claim_by, round_claim_by}
-use Rattle.recolour_bench.specs.History.{Entry, History, IsHistory, AreAlike, no_entry, present_chain}
+use Rattle.recolour_bench.specs.History.{Entry, History, IsHistory, no_entry, present_chain}
 use Rattle.recolour_bench.specs.Law.{IsShown, FitsText, IsShownByRounds, IsFollowing, ChainsAreAccepted, ChainsAreShort, ChainsAreRaw, ChainTextsFit, RoundChainsAreAccepted, ChainsFollow, RoundChainIsUnique}
 use Rattle.recolour_bench.proofs.Alike.{chain_is_unique}
 use Rattle.recolour_bench.proofs.Chains.{IsRawStage, IsSound, IsVersioned-sound, colourings-sound, following-sound, sound_at}

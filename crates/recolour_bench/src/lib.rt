@@ -24,6 +24,3 @@ mod refusals;
 
 pub use edits::{Edit, EditFault};
 pub use history::{Bench, MOST_POSITION};
-
-#[cfg(test)]
-mod tests;

@@ -13,7 +13,7 @@ use Rattle.relation_text.specs.Faults.{size_of}
 use Rattle.relation_text.proofs.SizeLemmas.{size_of-size_bytes}
 use Rattle.relation_text.proofs.BitLemmas.{same_bits}
 use Rattle.relation_text.proofs.OrderLemmas.{column_pairs-at, column_pairs-all, row_pairs-at, row_pairs-all}
-use Rattle.relation_text.proofs.SameColours.{SameColours}
+use Rattle.pair_colours.proofs.SameColours.{SameColours}
 
 -- one text has one size and one list of bits
 pub same_size : (format : GraphFormat) (bytes : List ℕ) (m n : ℕ) (x y : List Bool) → IsBitText format bytes m x → IsBitText format bytes n y → m ≡ n

@@ -1,11 +1,9 @@
 pub mod LawProofs
-pub mod RowWrites
 mod BitLemmas
 mod AnyLemmas
 mod SizeLemmas
 mod GraphBodies
 mod OrderLemmas
-mod SameColours
 mod GraphReadings
 mod MatrixRows
 mod MatrixReadings

@@ -19,7 +19,7 @@ use Rattle.relation_text.specs.Relation.{IsMatrix}
 use Rattle.relation_text.specs.LineColours.{no_part, cell, size_in}
 use Rattle.relation_text.specs.Faults.{Test, row_tests, head_word, head_tests, matrix_tests}
 use Rattle.relation_text.proofs.GraphBodies.{IsSize}
-use Rattle.relation_text.proofs.SameColours.{SameColours}
+use Rattle.pair_colours.proofs.SameColours.{SameColours}
 use Rattle.relation_text.proofs.MatrixRows.{IsGoodRow, row-from_fails, fails-from_row, length-words, good_number, row-from_matrix}
 
 -- tests for each number of a range

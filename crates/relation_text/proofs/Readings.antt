@@ -25,7 +25,7 @@ use Rattle.relation_text.proofs.GraphReadings.{edge_colour, edge_bit-below, edge
 use Rattle.relation_text.proofs.BitLemmas.{bit_at-bits_in}
 use Rattle.relation_text.proofs.OrderLemmas.{column_pairs-at, row_pairs-at}
 use Rattle.relation_text.proofs.MatrixReadings.{matrix-from_none, none-from_matrix, IsMatrix-from_good, good-from_IsMatrix, same_matrices}
-use Rattle.relation_text.proofs.SameColours.{SameColours, same_colouring}
+use Rattle.pair_colours.proofs.SameColours.{SameColours, same_colouring}
 
 -- a text that begins with another
 pub begins : (xs p : List ℕ) → starts_with nat_eq xs p ≡ true → xs ≡ p ++ drop (length p) xs

@@ -1,8 +1,7 @@
 -- The texts of relations that are written.
 use Rattle.std.specs.Prelude.{ℕ, Bool, List, ◌++◌, map, codes, decimal}
-use Rattle.std.specs.List.{flat_map}
-use Rattle.text_lines.specs.Joined.{spaced}
-use Rattle.pair_colours.specs.Colouring.{PairColouring, colour_at, points}
+use Rattle.text_lines.specs.Rows.{matrix_rows}
+use Rattle.pair_colours.specs.Colouring.{PairColouring, colour_at}
 use Rattle.pair_colours.specs.ColourSets.{is_in}
 use Rattle.relation_text.specs.Bits.{size_bytes, bit_bytes}
 use Rattle.relation_text.specs.Orders.{column_pairs, row_pairs}
@@ -18,14 +17,6 @@ graph6_of C set = size_bytes C.size ++ bit_bytes (pair_bits C set (column_pairs 
 -- the digraph whose arcs are the pairs with a colour in the set
 abbrev pub digraph6_of : PairColouring → List ℕ → List ℕ
 digraph6_of C set = codes "&" ++ size_bytes C.size ++ bit_bytes (pair_bits C set (row_pairs C.size))
-
--- the colours of row x, with single spaces
-abbrev pub matrix_row : PairColouring → ℕ → List ℕ
-matrix_row C x = spaced (map (λ y. colour_at C x y) (points C.size))
-
--- the rows of a matrix, a line each
-abbrev pub matrix_rows : PairColouring → List ℕ
-matrix_rows C = flat_map (λ x. matrix_row C x ++ codes "\n") (points C.size)
 
 -- a matrix: the head line with its number of points, and its rows
 abbrev pub matrix_of : PairColouring → List ℕ

@@ -30,7 +30,4 @@ mod writers;
 
 pub use faults::{RelationFault, RelationWord, WriteFault};
 pub use reading::{MOST_RELATION, read_relation};
-pub use writers::{put_rows, write_digraph6, write_graph6, write_matrix};
-
-#[cfg(test)]
-mod tests;
+pub use writers::{write_digraph6, write_graph6, write_matrix};

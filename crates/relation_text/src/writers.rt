@@ -1,15 +1,15 @@
 //! The writers of relations.
 
-ghost use Rattle.std.specs.Prelude.{◌≡◌, ◌<◌, ◌++◌, IfOk, OnOk, IsErrOf};
+ghost use Rattle.std.specs.Prelude.{◌≡◌, IfOk, OnOk, IsErrOf};
 ghost use Rattle.pair_colours.specs.ColourSets.{IsColourSet, IsEdgeSet};
 ghost use Rattle.relation_text.specs.Orders.{column_pairs, row_pairs};
-ghost use Rattle.relation_text.specs.Written.{digraph6_of, graph6_of, matrix_of, matrix_row, matrix_rows, pair_bits};
+ghost use Rattle.relation_text.specs.Written.{digraph6_of, graph6_of, matrix_of, pair_bits};
 
 use crate::encoding::{push_bits, push_size};
 use crate::faults::WriteFault;
 use pair_colours::{ColourSet, Colouring, NoMemory, is_colour_set, is_edge_set};
-use std::alloc::{AllocError, Global};
-use text_lines::Text;
+use std::alloc::Global;
+use text_lines::{Text, put_rows};
 
 /// The graph6 text, without a line end, of the graph whose edges are the pairs with a colour in the
 /// set.
@@ -107,27 +107,4 @@ pub fn write_matrix(alloc: Global, relation: &Colouring) -> Result<Vec<u8>, NoMe
     text.put(b"\n")?;
     put_rows(&mut text, relation)?;
     Ok(text.into_bytes())
-}
-
-/// Puts the rows of a matrix at the end of a text, a line each: its numbers, each followed by one
-/// space or by the line end.
-pub fn put_rows(text: &mut Text, matrix: &Colouring) -> Result<(), NoMemory>
-    ensures { OnOk result (text.new ≡ text.old ++ matrix_rows matrix.now) }
-{
-    for x in 0..matrix.size() {
-        put_row(text, matrix, x)?;
-        text.put(b"\n")?;
-    }
-    Ok(())
-}
-
-// Puts row x of a matrix at the end, without its line end.
-fn put_row(text: &mut Text, matrix: &Colouring, x: u32) -> Result<(), AllocError>
-    requires { x < matrix.now.size }
-    ensures { OnOk result (text.new ≡ text.old ++ matrix_row matrix.now x) }
-{
-    for y in 0..matrix.size() {
-        text.put_next(b' ', y as usize, matrix.get(x, y))?;
-    }
-    Ok(())
 }

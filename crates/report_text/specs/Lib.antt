@@ -1,4 +1,5 @@
 pub mod EditLines
+pub mod Refusals
 pub mod Matrices
 pub mod Graphs
 pub mod Arrays

@@ -4,7 +4,7 @@ use Rattle.pair_colours.specs.Colouring.{PairColouring}
 use Rattle.pair_colours.specs.Naming.{rank_of}
 use Rattle.report_text.specs.declared.matrices.MatrixHead.{MatrixHead}
 use Rattle.report_text.specs.declared.matrices.MatrixHead.TheVariants.{Show, Raw, Quotient, Sub}
-use Rattle.relation_text.specs.Written.{matrix_rows}
+use Rattle.text_lines.specs.Rows.{matrix_rows}
 
 -- the head line: which matrix it is, how many points it has and how many colours are in use
 abbrev pub head_line : MatrixHead → ℕ → ℕ → List ℕ

@@ -9,8 +9,8 @@ use std::alloc::AllocError;
 use text_lines::Text;
 use visitors::Visitor;
 
-// Puts the lines of the first `count` entries at the end.
-pub(crate) fn put_entries(
+/// Puts the lines of the first `count` entries at the end, each with single spaces between its numbers.
+pub fn put_entries(
     text: &mut Text,
     visitor: &dyn Visitor,
     count: u32,

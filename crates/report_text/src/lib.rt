@@ -25,14 +25,13 @@ mod matrices;
 mod sets;
 mod strings;
 mod test_lines;
-#[cfg(test)]
-mod tests;
 mod verdict_lines;
 
 pub use arrays::array_text;
 pub use classes::classes_text;
 pub use constants::constants_text;
 pub use edit_lines::{edit_text, refused_text};
+pub use entries::put_entries;
 pub use graphs::{GraphNote, graph_text};
 pub use matrices::{MatrixHead, matrix_text};
 pub use sets::{SetHead, sets_text};

@@ -4,9 +4,8 @@ ghost use Rattle.std.specs.Prelude.{◌≡◌, ◌++◌, IfOk, OnOk};
 ghost use Rattle.report_text.specs.Matrices.{head_line, matrix_text_of};
 
 use pair_colours::{Colouring, NoMemory};
-use relation_text::put_rows;
 use std::alloc::{AllocError, Global};
-use text_lines::Text;
+use text_lines::{Text, put_rows};
 
 /// Which matrix an answer shows, told by the first word of its head line.
 #[derive(Clone, Copy, Debug, PartialEq, Eq)]

@@ -10,8 +10,6 @@
 pub mod laws;
 mod relations;
 mod script_lines;
-#[cfg(test)]
-mod tests;
 
 pub use relations::demo_relation;
 pub use script_lines::demo_lines;

@@ -37,7 +37,7 @@ spans_from_marks K g c marks r all = record {
 }
   where
     zero_below : 0 < K.size
-    zero_below = omega (arith, g.fits.colouring.has_points)
+    zero_below = omega (arith, g.colouring.has_points)
 
 -- the colours from point 0 to the marked points
 abbrev reached_set : PairColouring → List Bool → ℕ → Bool
@@ -56,7 +56,7 @@ of_set K marks d h =
 
 module _ (K : PairColouring) (g : IsConfiguration K) (h : Homogeneous K) (c : ℕ) (marks : List Bool) (r : MarksReached K c marks) where
   zero_in : 0 < K.size
-  zero_in = omega (arith, g.fits.colouring.has_points)
+  zero_in = omega (arith, g.colouring.has_points)
 
   -- the set holds the colours of the joined pairs
   joined_from_set : (x y : ℕ) → x < K.size → y < K.size → reached_set K marks (colour_at K x y) ≡ true → Joined K c x y
@@ -122,7 +122,7 @@ primitive_from_spans K g h two each = record {
 }
   where
     zero_below : 0 < K.size
-    zero_below = omega (arith, g.fits.colouring.has_points)
+    zero_below = omega (arith, g.colouring.has_points)
 
     whole : (set : ℕ → Bool) → IsClosedSet K set → (k : ℕ) × (k < rank_of K) × ((set k && not (k == colour_at K 0 0)) ≡ true) → HoldsDiagonal K set ⊎ HoldsAll K set
     whole set s f =

@@ -4,11 +4,11 @@ use Rattle.std.proofs.Common.{◌≡◌, ◌==◌, ◌&&◌, ℕ, suc, zero, ◌
 use Rattle.std.proofs.lemmas.Bool.{cases_lt, eq-eqb, and_from}
 use Rattle.pair_colours.specs.Colouring.{PairColouring, IsColour, colour_at, points, triangles}
 use Rattle.pair_colours.specs.IntersectionNumber.{pair_of_class, intersection_number}
-use Rattle.pair_colours.proofs.Counts.{unit_of, triangle_point}
+use Rattle.pair_colours.proofs.Counts.{unit_of, triangle_point, counted}
 use Rattle.pair_colours.proofs.Measure.{sum_by_points_more, sum_by_points_same}
 use Rattle.struct_consts.specs.ClassData.{IsConfiguration, valency_of}
 use Rattle.struct_consts.proofs.LawProofs.{colours_are_below_rank, classes_have_pairs, triangles_are_constants}
-use Rattle.struct_consts.proofs.Sums.{counted, sum_add, sum_zero}
+use Rattle.struct_consts.proofs.Sums.{sum_add, sum_zero}
 use Rattle.scheme_tests.specs.SchemeTests.{Homogeneous, Commutative}
 use Rattle.scheme_tests.specs.Law.{CommutesInOrder}
 use Rattle.scheme_tests.proofs.TestLemmas.{colour_of, row_count-homogeneous}

@@ -54,7 +54,7 @@ MarksReached-marks_of K c one = record {
 pub spans_or_proper : (K : PairColouring) → IsConfiguration K → Homogeneous K → (c : ℕ) → c < rank_of K → Spans K c ⊎ HasProperSet K c
 spans_or_proper K g h c l =
     let marks = marks_of K c in
-    let r = MarksReached-marks_of K c (omega (arith, g.fits.colouring.has_points)) in
+    let r = MarksReached-marks_of K c (omega (arith, g.colouring.has_points)) in
     ⊎_elim
     (λ all. inl (spans_from_marks K g c marks r all))
     (λ s. inr (proper_from_marks K g h c marks r l s.0 s.1 s.2))

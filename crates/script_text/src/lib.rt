@@ -26,6 +26,3 @@ pub use acts::{Act, GraphForm, Line, Name};
 pub use faults::{ScriptFault, ScriptWord};
 pub use limits::{MOST_LINES, MOST_MERGINGS, MOST_PRODUCTS, MOST_SCRIPT};
 pub use reading::read_script;
-
-#[cfg(test)]
-mod tests;

@@ -43,6 +43,12 @@ module _ (class0 codes : List ℕ) (numbered : IsNumbered class0) (sorted : AreS
     pub colour_of : colour ≡ get_or class0 p 0
     colour_of = c ∙ sorted.is t l ∙ ap (λ q. get_or class0 q 0) (sym is)
 
+    -- a number that is not in its class yet is in class 0
+    pub not_moved : get_or class p 0 ≢ colour → (get_or class p 0 ≡ 0) × (0 < colour)
+    not_moved ne =
+        let zero : get_or class p 0 ≡ 0 = ⊎_elim (λ z. z) (λ e. absurd (ne (e ∙ sym colour_of))) (h.either p p_in) in
+        (zero, omega (arith, zero, ne))
+
     pub near : colour ≤ rank
     near = ⊎_elim (λ z. omega (arith, z, h.some)) (λ ne. more (colour - 1) (omega (arith, ne))) (cases_eq colour 0)
       where

@@ -1,5 +1,5 @@
 -- The partition that `Cells` keeps, and what a step makes of it.
-use Rattle.std.proofs.Common.{◌≡◌, ◌≢◌, ◌↔◌, ◌==◌, ◌&&◌, nat_lt, ℕ, ◌+◌, ◌-◌, ◌*◌, ◌/◌, ◌%◌, ◌^◌, ◌<◌, ◌≤◌, Bool, true, false, if◌then◌else◌, List, length, get_or, map, filter, count_by, replicate, All, ⊎_elim, refl, sym, ap, ◌∙◌, arith, zero, suc}
+use Rattle.std.proofs.Common.{◌≡◌, ◌≢◌, ◌↔◌, ◌==◌, ◌&&◌, nat_lt, ℕ, ◌+◌, ◌*◌, ◌/◌, ◌%◌, ◌^◌, ◌<◌, ◌≤◌, Bool, true, false, if◌then◌else◌, List, length, get_or, map, filter, count_by, replicate, All, ⊎_elim, refl, sym, ap, ◌∙◌, arith, zero, suc}
 use Rattle.std.proofs.lemmas.Bool.{cases_Bool, cases_eq, cases_lt, eq-eqb, eqb-true, ne_eqb, lt-ltb, le-ltb}
 use Rattle.std.proofs.lemmas.List.{length-map, ext_get_or, length-replicate, get_or-replicate, get_or_past}
 use Rattle.std.proofs.lemmas.List.FromFn.{length-range_with_len, get_or-map-range_with_len}
@@ -9,7 +9,7 @@ use Rattle.pair_colours.specs.Colouring.{PairColouring, IsColouring, colour_at, 
 use Rattle.pair_colours.specs.Naming.{walk, first_met, rank_of}
 use Rattle.pair_colours.proofs.Counts.{unit_of, count_by-map, count_by_points}
 use Rattle.pair_colours.proofs.Exists.{IsColouring-by_pairs}
-use Rattle.pair_colours.proofs.ListLemmas.{Each-weaker, map_agree}
+use Rattle.pair_colours.proofs.ListLemmas.{Each-weaker, map_agree, Each-passed}
 use Rattle.pair_colours.proofs.Names.{InSquare, Each-walk}
 use Rattle.pair_colours.proofs.Places.{place_below, row_below, column_below}
 use Rattle.trace_text.specs.declared.step_list.Step.{Step}
@@ -26,7 +26,6 @@ use Rattle.split_cells.specs.Grids.{IsUsed, grid}
 use Rattle.split_cells.specs.Keys.{IsBlank, class_of, key_inside, key_at, counts_in}
 use Rattle.split_cells.specs.Sorted.{IsNumbered}
 use Rattle.wl_round.proofs.PointCounts.{count_one_more, count_none}
-use Rattle.split_cells.proofs.PartLemmas.{Each-passed}
 use Rattle.split_cells.proofs.ReadOut.{same_at_pairs}
 
 -- the classes of a grid with the numbers below r in use

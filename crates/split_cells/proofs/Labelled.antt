@@ -1,5 +1,5 @@
 -- Classes with inner numbers, and the partition as it is shown.
-use Rattle.std.proofs.Common.{◌≡◌, ◌≢◌, ◌↔◌, ◌==◌, ◌&&◌, nat_lt, IsTrue, ℕ, ◌+◌, ◌-◌, ◌*◌, ◌/◌, ◌%◌, ◌<◌, ◌≤◌, Bool, true, cond, if◌then◌else◌, List, [], ◌∷◌, length, get_or, map, filter, count_by, All, ⊎_elim, refl, sym, ap, subst, ◌∙◌, arith, suc}
+use Rattle.std.proofs.Common.{◌≡◌, ◌≢◌, ◌↔◌, ◌==◌, ◌&&◌, nat_lt, IsTrue, ℕ, ◌+◌, ◌-◌, ◌*◌, ◌/◌, ◌%◌, ◌<◌, ◌≤◌, Bool, true, if◌then◌else◌, List, [], ◌∷◌, length, get_or, map, filter, count_by, All, ⊎_elim, refl, sym, ap, subst, ◌∙◌, arith, suc}
 use Rattle.std.specs.List.{AllByRecursion}
 use Rattle.std.proofs.lemmas.Bool.{cases_eq, cases_lt, eq-eqb, eqb-true, ne_eqb}
 use Rattle.std.proofs.lemmas.List.{length-map, get_or-map}
@@ -11,7 +11,7 @@ use Rattle.pair_colours.specs.Closure.{Coherent}
 use Rattle.pair_colours.specs.Naming.{walk, first_met, rank_of}
 use Rattle.pair_colours.proofs.Closures.{Coherent-same}
 use Rattle.pair_colours.proofs.Counts.{unit_of, count_by-cons, count_by-map, count_by_points}
-use Rattle.pair_colours.proofs.ListLemmas.{Each-weaker, map_agree}
+use Rattle.pair_colours.proofs.ListLemmas.{Each-weaker, map_agree, Each-passed, filter_agree}
 use Rattle.pair_colours.proofs.Names.{InSquare, Each-walk}
 use Rattle.pair_colours.proofs.Places.{place_below, row_below, column_below}
 use Rattle.trace_text.specs.declared.step_list.Step.{Step}
@@ -30,17 +30,12 @@ use Rattle.split_cells.specs.Faults.{NamesBelow, SplitsTwo}
 use Rattle.split_cells.specs.Parts.{IsParted, part_from, smaller_counts}
 use Rattle.split_cells.specs.Labels.{AreLabels, shown_by, step_shown_by}
 use Rattle.split_cells.specs.Kept.{IsShown, shown_of}
-use Rattle.split_cells.proofs.PartLemmas.{Each-passed, IsUsed-few}
+use Rattle.split_cells.proofs.PartLemmas.{IsUsed-few}
 use Rattle.split_cells.proofs.OneClassSteps.{one_class_shown, SplitsTwo-one_class}
 use Rattle.split_cells.proofs.CellLemmas.{keys_before, keys_of_counts, split_by_places, parts_from_keys, names_class}
 use Rattle.split_cells.proofs.FaultSteps.{SplitsTwo-parts, names_one, names_two, names_three}
 
--- tests that agree at each element keep the same elements
-filter_each : {X : Type 0} (p q : X → Bool) (xs : List X) → AllByRecursion (λ x. p x ≡ q x) xs → filter p xs ≡ filter q xs
-filter_each p q [] a = refl
-filter_each p q (x ∷ xs) a = λ i. cond (a.0 i) (x ∷ filter_each p q xs a.1 i) (filter_each p q xs a.1 i)
-
--- and so does a count
+-- tests that agree on the elements count the same elements
 count_each : (p q : ℕ → Bool) (xs : List ℕ) → AllByRecursion (λ x. p x ≡ q x) xs → count_by p xs ≡ count_by q xs
 count_each p q [] a = refl
 count_each p q (x ∷ xs) a = omega (arith, count_by-cons p x xs, count_by-cons q x xs, ap unit_of a.0, count_each p q xs a.1)
@@ -202,7 +197,7 @@ module _ {pairs : ClassedPairs} {labels : Labels} (h : IsShown pairs labels) whe
     pub keys_shown : keys_in P (class_of shown) (key_inside P shown) ≡ counts_in n class counts k
     keys_shown =
         ap (λ c. keys_in P c (key_inside P shown)) (class_shown s one_class)
-        ∙ ap (λ ps. first_met (map key_of ps)) (filter_each in_shown in_class (walk n) (Each-weaker (InSquare n) (λ p. in_shown p ≡ in_class p) (λ p q. colour_test p.0 p.1 k q.0 q.1 k_low) (walk n) (Each-walk n)))
+        ∙ ap (λ ps. first_met (map key_of ps)) (filter_agree in_shown in_class (walk n) (Each-weaker (InSquare n) (λ p. in_shown p ≡ in_class p) (λ p q. colour_test p.0 p.1 k q.0 q.1 k_low) (walk n) (Each-walk n)))
         ∙ ap first_met (map_agree key_of count_of (filter in_class (walk n))
         (Each-weaker (λ p. InSquare n p × (in_class p ≡ true)) (λ p. key_of p ≡ count_of p)
         (λ p q.

@@ -8,7 +8,7 @@ use Rattle.std.proofs.lemmas.Nat.{div-add-mod'}
 use Rattle.std.proofs.lemmas.Map.Steps.{le-length_from_below}
 use Rattle.pair_colours.specs.Naming.{walk, first_met}
 use Rattle.pair_colours.proofs.Counts.{unit_of, count_by-cons}
-use Rattle.pair_colours.proofs.ListLemmas.{Each-map, Each-weaker, list_any-map, list_any-filter}
+use Rattle.pair_colours.proofs.ListLemmas.{Each-map, Each-weaker, list_any-map, list_any-filter, Each-passed}
 use Rattle.pair_colours.proofs.Names.{InSquare, Each-first_met, Each-walk, list_any-walk}
 use Rattle.pair_colours.proofs.Places.{place_below, row_below, column_below}
 use Rattle.split_cells.specs.Counts.{Counts, IsTally}
@@ -119,15 +119,6 @@ met_once (x ∷ xs) c h = ⊎_elim here (there (met_once xs c)) (cases_eq x c)
         let rest : list_any (λ y. c == y) xs ≡ true = sym (ap (λ b. b || list_any (λ y. c == y) xs) (ne_eqb c x (λ f. ne (sym f)))) ∙ h in
         let same = count_filter_same (λ w. w == c) (λ y. not (x == y)) (λ y q. ne_eqb y c (λ f. let z : not (x == y) ≡ true = ap not (ne_eqb x y (λ g. ne (g ∙ f))) in cc)) (first_met xs) in
         omega (arith, same, again rest, count_by-cons (λ w. w == c) x (filter (λ y. not (x == y)) (first_met xs)), ap unit_of (ne_eqb x c ne))
-
--- what passes a filter has passed its test
-pub Each-passed : {X : Type 0} (P : X → Type 0) (q : X → Bool) (ps : List X) → AllByRecursion P ps → AllByRecursion (λ p. P p × (q p ≡ true)) (filter q ps)
-Each-passed P q [] a = tt
-Each-passed {X} P q (p ∷ ps) a = by (q p) refl (Each-passed P q ps a.1)
-  where
-    by : (b : Bool) → q p ≡ b → AllByRecursion (λ p. P p × (q p ≡ true)) (filter q ps) → AllByRecursion (λ p. P p × (q p ≡ true)) (cond b (p ∷ filter q ps) (filter q ps))
-    by true e r = ((a.0, e), r)
-    by false e r = r
 
 -- the keys of class k are met once each, and no others are met
 module _ (n : ℕ) (class : List ℕ) (size : length class ≡ n * n) (counts : List ℕ) (k : ℕ) where

@@ -14,7 +14,7 @@ use Rattle.pair_colours.proofs.Names.{InSquare, Each-walk}
 use Rattle.trace_text.specs.declared.step_list.Step.TheVariants.{Round}
 use Rattle.trace_text.specs.Partition.{IsPartition}
 use Rattle.trace_text.specs.Split.{has_smaller_key, later_keys, parted_by, split_of}
-use Rattle.trace_text.proofs.Below.{below, below_none, below_next, met_once}
+use Rattle.pair_colours.proofs.Below.{below, below_none, below_next, met_once}
 use Rattle.trace_text.proofs.Parting.{any_holds, key_counts, key_found, moves, smaller_moves, parted_moved, parted_kept, parted_together, rank_of-parted_by, IsPartition-parted_by}
 use Rattle.trace_text.proofs.Ranks.{rank_of-le_pairs}
 use Rattle.split_cells.specs.PartNumbers.{IsReached, IsShownTo, IsShown}

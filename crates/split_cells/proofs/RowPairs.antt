@@ -8,16 +8,11 @@ use Rattle.split_cells.specs.declared.codes.Codes.{Codes}
 use Rattle.split_cells.specs.Faults.{IsSettled, HasHomes, HasLikeRowsOnce, row_pairs}
 use Rattle.split_cells.specs.Codes.{IsCoded, code_over, code_count}
 use Rattle.wl_round.proofs.PointCounts.{counted_point}
-
-and_sym : (s t : Bool) → (s && t) ≡ (t && s)
-and_sym true true = refl
-and_sym true false = refl
-and_sym false true = refl
-and_sym false false = refl
+use Rattle.pair_colours.proofs.MetNumbers.{and_turned}
 
 -- the rows the other way round
 row_pairs-sym : (P : PairColouring) (x y i j : ℕ) → row_pairs P x y i j ≡ row_pairs P y x j i
-row_pairs-sym P x y i j = count_by_points (λ z. (colour_at P x z == i) && (colour_at P y z == j)) (λ z. (colour_at P y z == j) && (colour_at P x z == i)) P.size (λ z l. and_sym (colour_at P x z == i) (colour_at P y z == j))
+row_pairs-sym P x y i j = count_by_points (λ z. (colour_at P x z == i) && (colour_at P y z == j)) (λ z. (colour_at P y z == j) && (colour_at P x z == i)) P.size (λ z l. and_turned (colour_at P x z == i) (colour_at P y z == j))
 
 -- a point over which both colours stand
 row_point : (P : PairColouring) (x y i j : ℕ) → 0 < row_pairs P x y i j → (z : ℕ) × (z < P.size) × (colour_at P x z ≡ i) × (colour_at P y z ≡ j)

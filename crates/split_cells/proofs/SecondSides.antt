@@ -4,7 +4,7 @@ use Rattle.std.proofs.lemmas.Bool.{cases_eq, cases_lt, eq-eqb, ne_eqb, lt-ltb, l
 use Rattle.std.proofs.lemmas.List.{length-set, get_or-set_same, get_or_past}
 use Rattle.std.proofs.lemmas.Nat.{div-add-mod', same_from_place}
 use Rattle.pair_colours.specs.Colouring.{points}
-use Rattle.pair_colours.proofs.Counts.{unit_of, count_by_points}
+use Rattle.pair_colours.proofs.Counts.{unit_of, count_by_points, count_short}
 use Rattle.pair_colours.proofs.Places.{row_below, column_below, place_below}
 use Rattle.pair_colours.proofs.Writes.{set_other_pair}
 use Rattle.trace_text.specs.declared.step_list.Step.TheVariants.{Tri}
@@ -13,7 +13,7 @@ use Rattle.split_cells.specs.Segments.{IsMembers}
 use Rattle.split_cells.specs.Grids.{IsTurned, grid}
 use Rattle.split_cells.specs.Keys.{IsGathered, IsBlank, key_at}
 use Rattle.split_cells.specs.Sides.{IsColumnCounted, is_over_right}
-use Rattle.wl_round.proofs.PointCounts.{count_none, count_one_more, count_short, square_le}
+use Rattle.wl_round.proofs.PointCounts.{count_none, count_one_more, square_le}
 use Rattle.split_cells.proofs.GatherLemmas.{some_size}
 
 -- of the pairs of column y, those before x are counted once more

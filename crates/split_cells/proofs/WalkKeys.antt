@@ -16,7 +16,7 @@ use Rattle.pair_colours.proofs.Names.{InSquare, Each-walk, list_any-walk}
 use Rattle.pair_colours.proofs.NumberedLists.{any_position}
 use Rattle.pair_colours.proofs.WalkPlaces.{length-walk}
 use Rattle.trace_text.specs.Partition.{IsPartition}
-use Rattle.trace_text.proofs.Below.{below, below-le}
+use Rattle.pair_colours.proofs.Below.{below, below-le}
 use Rattle.trace_text.proofs.Partitions.{IsPartition-named_of}
 
 -- a pair stands at a place of the walk

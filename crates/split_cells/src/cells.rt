@@ -26,6 +26,7 @@ use crate::turning::{turned_apart, turned_class};
 use pair_colours::{Colouring, NoMemory};
 use std::alloc::Global;
 use std::marker::Model;
+use std::mem;
 use trace_text::Step;
 use wl_round::round_of;
 use wl_round::transposing::transposed;
@@ -57,11 +58,11 @@ impl Cells {
         ensures { IfOk result (λ cells. cells ≡ colouring.now) }
     {
         let points = colouring.size();
-        let size = Size::new(alloc, points)?;
-        let parting = parted(alloc, colouring.colours())?;
         let turned = transposed(alloc, points, colouring.colours())?;
+        let size = Size::new(alloc, points)?;
         let labels = Labels::new(alloc, points * points)?;
         let tally = Tally::new(alloc, points * points)?;
+        let parting = parted(alloc, colouring.colours())?;
         Ok(Cells {
             pairs: ClassedPairs {
                 size,
@@ -161,6 +162,17 @@ impl Cells {
         split
     }
 
+    // The cells after the step `R`.
+    fn after_round(&self, alloc: Global) -> Result<Cells, NoMemory>
+        ensures parts { IfOk result (λ cells. cells ≡ split_of self.now Round) }
+        ensures within { IsPartition self.now }
+    {
+        let partition = self.colouring(alloc)?;
+        let round = round_of(alloc, &partition)?;
+        let parted = renumbered(alloc, &partition, self.rank(), &round)?;
+        Cells::of(alloc, &parted)
+    }
+
     /// Makes the step `R`, and says whether some class had two parts. If not, or where there is not
     /// enough memory, nothing has changed.
     pub fn round(&mut self, alloc: Global) -> Result<bool, NoMemory>
@@ -170,13 +182,10 @@ impl Cells {
         ensures unchanged { OnErr result (self.new ≡ self.old) }
         ensures within { IsPartition self.new }
     {
-        let partition = self.colouring(alloc)?;
-        let round = round_of(alloc, &partition)?;
-        let parted = renumbered(alloc, &partition, self.rank(), &round)?;
-        let cells = Cells::of(alloc, &parted)?;
+        let mut cells = self.after_round(alloc)?;
         let split = cells.rank() > self.rank();
         if split {
-            *self = cells;
+            mem::swap(self, &mut cells);
         }
         Ok(split)
     }

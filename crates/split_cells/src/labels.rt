@@ -7,6 +7,7 @@ ghost use Rattle.std.specs.Prelude.{◌≡◌, ◌≢◌, ℕ, ◌<◌, ◌≤�
 ghost use Rattle.trace_text.specs.Split.{numbers_of};
 ghost use Rattle.split_cells.specs.Labels.{AreInverse, AreLabels, step_shown_by};
 
+use crate::partings::numbers_below;
 use pair_colours::NoMemory;
 use std::alloc::Global;
 use trace_text::Step;
@@ -24,10 +25,7 @@ impl Labels {
         ensures labels { IfOk result (λ labels. AreLabels bound 0 labels.outer.items labels.inner.items) }
         ensures same { IfOk result (λ labels. (k : ℕ) → k < bound → slice_index labels.outer.items k ≡ k) }
     {
-        let mut outer = Vec::with_capacity(alloc, bound as usize)?;
-        for k in 0..bound {
-            outer.push(k)?;
-        }
+        let outer = numbers_below(alloc, bound)?;
         let inner = Vec::from_slice(alloc, &outer)?;
         Ok(Labels { outer, inner })
     }

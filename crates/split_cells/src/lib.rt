@@ -43,6 +43,3 @@ mod turning;
 
 pub use cells::Cells;
 pub use comparing::Comparison;
-
-#[cfg(test)]
-mod tests;

@@ -1,6 +1,7 @@
 //! Numbered classes, each a segment of one list.
 
 ghost use Rattle.std.specs.Prelude.{◌≡◌, ◌≢◌, ℕ, ◌+◌, ◌-◌, ◌*◌, ◌^◌, ◌<◌, ◌≤◌, IfOk, [], length, replicate, slice_index, slice_set};
+ghost use Rattle.std.specs.List.{range_with_len};
 ghost use Rattle.split_cells.specs.Segments.{IsMembers, IsParting, StandsBehind, bound_of, class_at, first_of, stands_at};
 ghost use Rattle.split_cells.specs.Grids.{HasMember};
 
@@ -27,6 +28,17 @@ pub(crate) fn zeros(alloc: Global, len: u32) -> Result<Vec<u32>, NoMemory>
     Ok(zeros)
 }
 
+// The numbers below a bound.
+pub(crate) fn numbers_below(alloc: Global, bound: u32) -> Result<Vec<u32>, NoMemory>
+    ensures { IfOk result (λ v. v.items ≡ range_with_len 0 bound) }
+{
+    let mut numbers = Vec::with_capacity(alloc, bound as usize)?;
+    for k in 0..bound {
+        numbers.push(k)?;
+    }
+    Ok(numbers)
+}
+
 impl Parting {
     // One class of the numbers below `bound`.
     pub(crate) fn whole(alloc: Global, bound: u32) -> Result<Parting, NoMemory>
@@ -37,10 +49,7 @@ impl Parting {
         ensures rank { IfOk result (λ s. s.rank ≡ 1) }
         ensures class { IfOk result (λ s. s.class.items ≡ replicate bound 0) }
     {
-        let mut order = Vec::with_capacity(alloc, bound as usize)?;
-        for p in 0..bound {
-            order.push(p)?;
-        }
+        let order = numbers_below(alloc, bound)?;
         let place = Vec::from_slice(alloc, &order)?;
         let class = zeros(alloc, bound)?;
         let start = zeros(alloc, bound + 1)?;

@@ -33,8 +33,9 @@ impl Size {
         requires { points ≤ MOST_POINTS }
         ensures { IfOk result (λ size. size ≡ points) }
     {
-        let mut firsts = Vec::with_capacity(alloc, (points * points) as usize)?;
-        let mut seconds = Vec::with_capacity(alloc, (points * points) as usize)?;
+        let pairs = (points * points) as usize;
+        let mut firsts = Vec::with_capacity(alloc, pairs)?;
+        let mut seconds = Vec::with_capacity(alloc, pairs)?;
         for x in 0..points {
             for y in 0..points {
                 firsts.push(x as u8)?;

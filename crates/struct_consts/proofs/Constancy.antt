@@ -5,12 +5,12 @@ use Rattle.pair_colours.specs.Colouring.{PairColouring, colour_at, triangles}
 use Rattle.pair_colours.specs.Closure.{Coherent}
 use Rattle.pair_colours.specs.Naming.{rank_of}
 use Rattle.pair_colours.specs.IntersectionNumber.{pair_of_class, intersection_number}
-use Rattle.pair_colours.proofs.Counts.{count_by_points, triangle_point}
+use Rattle.pair_colours.proofs.Counts.{count_by_points, triangle_point, counted}
 use Rattle.triangle_count.specs.declared.rows.Entry.{Entry}
 use Rattle.triangle_count.specs.Row.{IsRowAt}
 use Rattle.struct_consts.specs.ClassData.{IsConfiguration, row_count, valency_of, fibres_of}
 use Rattle.struct_consts.proofs.Configurations.{pair_of_class-holds}
-use Rattle.struct_consts.proofs.Sums.{counted, sum_zero}
+use Rattle.struct_consts.proofs.Sums.{sum_zero}
 
 -- the triangle numbers at every pair of class k are its intersection numbers
 pub triangles-constant : (K : PairColouring) → IsConfiguration K → (k x y i j : ℕ) → k < rank_of K → x < K.size → y < K.size → colour_at K x y ≡ k

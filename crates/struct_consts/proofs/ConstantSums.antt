@@ -59,6 +59,6 @@ size_is_fibre_times_valency K h k l =
     let outside : (z : ℕ) → z < K.size → (colour_at K z z ≡ fibre → ⊥) → row_count K z k ≡ cond (colour_at K z z == fibre) (valency_of K k) 0 = λ z m ne.
     subst (λ c. row_count K z c ≡ 0) p.colour (row_count-other K h.coherent z (pair_of_class K k).0 (pair_of_class K k).1 m p.row p.column ne)
     ∙ ap (λ b. cond b (valency_of K k) 0) (sym (ne_eqb _ _ ne)) in
-    class_size-rows K h.fits.colouring k
+    class_size-rows K h.colouring k
     ∙ sum_chosen (λ z. colour_at K z z == fibre) (λ z. row_count K z k) (valency_of K k) K.size
     (λ z m. ⊎_elim (inside z m) (outside z m) (cases_eq (colour_at K z z) fibre))

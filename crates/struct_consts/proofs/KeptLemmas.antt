@@ -2,7 +2,7 @@
 use Rattle.std.proofs.Common.{◌≡◌, ℕ, ◌+◌, ◌<◌, ◌≤◌, List, [], ◌∷◌, ◌++◌, length, get_or, All, Option, None, Some, option_map, ⊎_elim, sym, ap, subst, ◌∙◌, arith}
 use Rattle.std.proofs.lemmas.Bool.{cases_lt}
 use Rattle.std.proofs.lemmas.List.{length_push, get_or_append_left, get_or_push, get_or_default}
-use Rattle.pair_colours.specs.Colouring.{PairColouring, colour_at, triangles}
+use Rattle.pair_colours.specs.Colouring.{PairColouring, FitsColouring, colour_at, triangles}
 use Rattle.pair_colours.specs.Naming.{rank_of, first_pair_of, transpose_of}
 use Rattle.pair_colours.specs.IntersectionNumber.{pair_of_class}
 use Rattle.triangle_count.specs.declared.rows.Entry.{Entry}
@@ -89,8 +89,9 @@ HasData-push K n classes new c e one h = record {
       (cases_lt k n));
 }
 
-pub IsConstants-from_data : (K : PairColouring) (classes : List Class) → IsConfiguration K → HasData K (rank_of K) classes → IsConstants K classes
-IsConstants-from_data K classes g h = record {
+pub IsConstants-from_data : (K : PairColouring) (classes : List Class) → FitsColouring K → IsConfiguration K → HasData K (rank_of K) classes → IsConstants K classes
+IsConstants-from_data K classes f g h = record {
+  fits = f;
   configuration = g;
   rank = h.len;
   data_of_each = λ k d l. h.data_of_each k d (omega (arith, l, h.len));

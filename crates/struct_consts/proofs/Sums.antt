@@ -1,18 +1,9 @@
 -- Counts and sums over the points below n.
-use Rattle.std.proofs.Common.{◌≡◌, ◌==◌, ◌&&◌, ℕ, suc, zero, ◌+◌, ◌*◌, ◌<◌, ◌≤◌, Bool, true, false, cond, get_or, count_by, sum_by, ⊎_elim, refl, sym, ap, ◌∙◌, arith}
-use Rattle.std.proofs.lemmas.Bool.{cases_lt, eq-eqb, ne_eqb}
-use Rattle.std.proofs.lemmas.List.FromFn.{get_or-range_with_len, length-range_with_len}
-use Rattle.std.proofs.lemmas.List.Sums.{get_or-le-sum_by}
+use Rattle.std.proofs.Common.{◌≡◌, ◌==◌, ◌&&◌, ℕ, suc, zero, ◌+◌, ◌*◌, ◌<◌, Bool, true, false, cond, count_by, sum_by, refl, sym, ap, ◌∙◌, arith}
 use Rattle.pair_colours.specs.Colouring.{points}
 use Rattle.pair_colours.proofs.Counts.{unit_of, sum_by_points_agree}
 use Rattle.pair_colours.proofs.Measure.{sum_by_points_more}
-
--- a point that passes a test is counted
-pub counted : (p : ℕ → Bool) (n z : ℕ) → z < n → p z ≡ true → 0 < count_by p (points n)
-counted p n z l e =
-    let at : get_or (points n) z 0 ≡ z = omega (arith, get_or-range_with_len 0 n z 0 l) in
-    let term = get_or-le-sum_by (λ w. unit_of (p w)) (points n) z 0 (omega (arith, l, length-range_with_len 0 n)) in
-    omega (arith, term, ap (λ w. unit_of (p w)) at, ap unit_of e)
+use Rattle.pair_colours.proofs.SingleCounts.{count_single}
 
 -- a sum of sums
 pub sum_add : (f g : ℕ → ℕ) (n : ℕ) → sum_by (λ k. f k + g k) (points n) ≡ sum_by f (points n) + sum_by g (points n)
@@ -26,13 +17,11 @@ sum_zero (suc n) = omega (arith, sum_zero n, sum_by_points_more (λ _. 0) n)
 
 -- one number below n is a
 one_hit : (a n : ℕ) → a < n → sum_by (λ k. unit_of (a == k)) (points n) ≡ 1
-one_hit a zero l = absurd (omega (arith, l))
-one_hit a (suc n) l = ⊎_elim
-    (λ (m : a < n). omega (arith, one_hit a n m, sum_by_points_more (λ k. unit_of (a == k)) n, ap unit_of (ne_eqb a n (λ e. omega (arith, e, m)))))
-    (λ (m : n ≤ a).
-    let none = sum_by_points_agree (λ k. unit_of (a == k)) (λ _. 0) n (λ k q. ap unit_of (ne_eqb a k (λ e. omega (arith, e, m, q)))) in
-    omega (arith, none, sum_zero n, sum_by_points_more (λ k. unit_of (a == k)) n, ap unit_of (eq-eqb a n (omega (arith, l, m)))))
-    (cases_lt a n)
+one_hit a n l = sum_by_points_agree (λ k. unit_of (a == k)) (λ k. unit_of ((a == k) && true)) n (λ k _. with_true (a == k)) ∙ count_single (λ _. true) a n l
+  where
+    with_true : (b : Bool) → unit_of b ≡ unit_of (b && true)
+    with_true true = refl
+    with_true false = refl
 
 -- one pair of numbers below n is (a, b)
 one_pair : (a b n : ℕ) → a < n → b < n → sum_by (λ i. sum_by (λ j. unit_of ((a == i) && (b == j))) (points n)) (points n) ≡ 1

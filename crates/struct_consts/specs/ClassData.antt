@@ -1,13 +1,13 @@
 -- The classes of a coherent configuration and what is known of each.
 use Rattle.std.specs.Prelude.{◌≡◌, ◌==◌, ℕ, ◌<◌, count_by}
-use Rattle.pair_colours.specs.Colouring.{PairColouring, FitsColouring, colour_at, points}
+use Rattle.pair_colours.specs.Colouring.{PairColouring, IsColouring, colour_at, points}
 use Rattle.pair_colours.specs.Closure.{Coherent}
 use Rattle.pair_colours.specs.Naming.{named_of}
 use Rattle.pair_colours.specs.IntersectionNumber.{pair_of_class}
 
 -- K is a coherent configuration, its classes named in the order of the naming walk
 pub record IsConfiguration (K : PairColouring) : Type 0 where
-  pub fits : FitsColouring K
+  pub colouring : IsColouring K
   pub coherent : Coherent K
   pub named : named_of K ≡ K
 

@@ -1,6 +1,6 @@
 -- What the program keeps of each class.
 use Rattle.std.specs.Prelude.{◌≡◌, ℕ, ◌<◌, List, length, Option, Some, None, slice_index_or}
-use Rattle.pair_colours.specs.Colouring.{PairColouring}
+use Rattle.pair_colours.specs.Colouring.{PairColouring, FitsColouring}
 use Rattle.pair_colours.specs.Naming.{rank_of, first_pair_of, transpose_of}
 use Rattle.triangle_count.specs.Row.{IsRowAt}
 use Rattle.struct_consts.specs.ClassData.{IsConfiguration, valency_of, class_size, fibres_of}
@@ -19,8 +19,9 @@ pub record IsClassData (K : PairColouring) (k : ℕ) (c : Class) : Type 0 where
 abbrev pub IsDataBefore : PairColouring → ℕ → List Class → Type 0
 IsDataBefore K n classes = (k : ℕ) (d : Class) → k < n → IsClassData K k (slice_index_or classes k d)
 
--- a configuration, and the data of all its classes in their order
+-- a configuration within the limit of points, and the data of all its classes in their order
 pub record IsConstants (K : PairColouring) (classes : List Class) : Type 0 where
+  pub fits : FitsColouring K
   pub configuration : IsConfiguration K
   pub rank : length classes ≡ rank_of K
   pub data_of_each : IsDataBefore K (length classes) classes

@@ -1,7 +1,7 @@
 //! What is kept of one class.
 
 ghost use Rattle.std.specs.Prelude.{◌≡◌, ◌<◌, Some, IfOk};
-ghost use Rattle.pair_colours.specs.Colouring.{colour_at};
+ghost use Rattle.pair_colours.specs.Colouring.{FitsColouring, colour_at};
 ghost use Rattle.pair_colours.specs.Naming.{first_pair_of};
 ghost use Rattle.struct_consts.specs.ClassData.{IsConfiguration, row_count, class_size};
 ghost use Rattle.struct_consts.specs.Kept.{IsClassData, IsConstants};
@@ -29,7 +29,8 @@ pub(crate) struct Class {
 
 // The data of all classes, in their order.
 pub(crate) fn classes_of(alloc: Global, k: &Colouring) -> Result<Vec<Class>, NoMemory>
-    requires { IsConfiguration k.now }
+    requires fits { FitsColouring k.now }
+    requires configuration { IsConfiguration k.now }
     ensures { IfOk result (λ classes. IsConstants k.now classes.items) }
 {
     let rank = k.rank(alloc)?;

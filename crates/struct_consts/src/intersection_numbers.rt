@@ -1,7 +1,7 @@
 //! A coherent configuration with its structure constants.
 
 ghost use Rattle.std.specs.Prelude.{◌≡◌, ℕ, ◌<◌, ◌≤◌, Some, All, IfOk};
-ghost use Rattle.pair_colours.specs.Colouring.{IsColour, colour_at, triangles};
+ghost use Rattle.pair_colours.specs.Colouring.{FitsColouring, IsColour, colour_at, triangles};
 ghost use Rattle.pair_colours.specs.Closure.{Coherent};
 ghost use Rattle.pair_colours.specs.Naming.{named_of, rank_of, first_pair_of, transpose_of};
 ghost use Rattle.pair_colours.specs.IntersectionNumber.{intersection_number, pair_of_class};
@@ -50,6 +50,7 @@ impl Constants {
     pub fn colouring(&self) -> &Colouring
         ensures value { result.now ≡ self.now }
         ensures configuration { IsConfiguration self.now }
+        ensures fits { FitsColouring self.now }
     {
         &self.colouring
     }
@@ -60,6 +61,7 @@ impl Constants {
         ensures colours { HasColoursBelow self.now result }
         ensures classes { (k : ℕ) → k < result → IsColour self.now k }
         ensures configuration { IsConfiguration self.now }
+        ensures fits { FitsColouring self.now }
     {
         self.classes.len() as u32
     }

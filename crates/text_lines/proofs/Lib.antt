@@ -6,3 +6,10 @@ pub mod Numbers
 pub mod WordBytes
 pub mod OneLine
 pub mod JoinedNumbers
+pub mod LineNumbers
+pub mod WordsLeft
+pub mod LineWords
+pub mod LineBytes
+pub mod RowLines
+pub mod LinesText
+pub mod PointsLine

@@ -16,12 +16,12 @@ digit_numerals = numerals_by_value (λ ds. all_ascii_digits ds ≡ true) tells_a
 pub IsNumberForm-unique : (word : List ℕ) (m n : ℕ) → IsNumberForm word m → IsNumberForm word n → m ≡ n
 IsNumberForm-unique word m n p q = decimal_injective m n (omega (arith, p.limit)) (omega (arith, q.limit)) (sym p.digits ∙ q.digits)
 
-both : (a b : Bool) → (a && b) ≡ true → (a ≡ true) × (b ≡ true)
+pub both : (a b : Bool) → (a && b) ≡ true → (a ≡ true) × (b ≡ true)
 both true true h = (refl, refl)
 both true false h = absurd cc
 both false b h = absurd cc
 
-and-false : (a : Bool) → (a && false) ≡ false
+pub and-false : (a : Bool) → (a && false) ≡ false
 and-false true = refl
 and-false false = refl
 

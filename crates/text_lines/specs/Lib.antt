@@ -4,3 +4,8 @@ pub mod Words
 pub mod Number
 pub mod Views
 pub mod Joined
+pub mod LineNumbers
+pub mod LinesText
+pub mod Rows
+pub mod LineCursor
+pub mod PointsLine

@@ -1,6 +1,6 @@
 //! Whether a claim is accepted.
 
-ghost use Rattle.std.specs.Prelude.{◌^◌, ◌<◌, ◌≤◌, length, IfOk};
+ghost use Rattle.std.specs.Prelude.{◌≡◌, ◌^◌, ◌<◌, ◌≤◌, length, None, IfOk};
 ghost use Rattle.trace_text.specs.BadLines.{line_count};
 ghost use Rattle.trace_check.specs.Verdict.{IsVerdict};
 
@@ -14,32 +14,30 @@ use trace_text::Claim;
 // The line on which the first stage begins.
 const FIRST_LINE: u32 = 3;
 
-/// Decides whether a claim is accepted: each stage is replayed, and the partition where the last one
-/// ends is tested for coherence and compared with the claimed closure. The answer is that of the
-/// definitions, since a claim is accepted or has exactly one first bad line (`trace_text::laws`); and
-/// the closure of an accepted claim is that of the colours of its last stage.
-pub fn check(alloc: Global, claim: &Claim) -> Result<Verdict, NoMemory>
+// Decides whether a claim is accepted. In `last` stands where the last stage ended.
+fn check_after<'a>(
+    alloc: Global,
+    claim: &'a Claim,
+    last: &mut Option<Ended<'a>>,
+) -> Result<Verdict, NoMemory>
     requires has_stage { 1 ≤ length claim.now.chain }
     requires lines { line_count claim.now < 2 ^ 32 }
+    requires none { last.old ≡ None }
     ensures { IfOk result (λ verdict. IsVerdict claim.now verdict) }
 {
-    let mut before: Option<Ended<'_>> = None;
     let mut line = FIRST_LINE;
     let mut steps = 0;
     for stage in claim.chain.as_slice() {
-        match replay(alloc, &before, stage, line)? {
-            Ok(end) => before = Some(end),
-            Err(bad) => {
-                return Ok(Verdict::Refused {
-                    line: bad.line,
-                    what: bad.what,
-                });
-            }
+        if let Some(bad) = replay(alloc, last, stage, line)? {
+            return Ok(Verdict::Refused {
+                line: bad.line,
+                what: bad.what,
+            });
         }
         line += 1 + stage.colours.size() + stage.steps.len();
         steps += stage.steps.len();
     }
-    let Some(end) = before else {
+    let Some(end) = last else {
         unreachable!();
     };
     match end_fault(alloc, &end.cells, &claim.closure)? {
@@ -50,4 +48,17 @@ pub fn check(alloc: Global, claim: &Claim) -> Result<Verdict, NoMemory>
         }),
         Some(what) => Ok(Verdict::Refused { line, what }),
     }
+}
+
+/// Decides whether a claim is accepted: each stage is replayed, and the partition where the last one
+/// ends is tested for coherence and compared with the claimed closure. The answer is that of the
+/// definitions, since a claim is accepted or has exactly one first bad line (`trace_text::laws`); and
+/// the closure of an accepted claim is that of the colours of its last stage.
+pub fn check(alloc: Global, claim: &Claim) -> Result<Verdict, NoMemory>
+    requires has_stage { 1 ≤ length claim.now.chain }
+    requires lines { line_count claim.now < 2 ^ 32 }
+    ensures { IfOk result (λ verdict. IsVerdict claim.now verdict) }
+{
+    let mut last: Option<Ended<'_>> = None;
+    check_after(alloc, claim, &mut last)
 }

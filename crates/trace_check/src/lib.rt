@@ -20,6 +20,3 @@ mod verdicts;
 pub use checking::check;
 pub use trace_text::CheckWord;
 pub use verdicts::Verdict;
-
-#[cfg(test)]
-mod tests;

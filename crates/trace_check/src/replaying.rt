@@ -1,12 +1,12 @@
 //! The stages of a claim, gone through step by step.
 
-ghost use Rattle.std.specs.Prelude.{◌≡◌, ◌↔◌, ℕ, ◌∷◌, [], ◌+◌, ◌^◌, ◌<◌, IsTrue, length, OnOk, IfOk, IfErr, IfSome, IfNone};
+ghost use Rattle.std.specs.Prelude.{◌≡◌, ◌↔◌, ℕ, ◌∷◌, [], ◌+◌, ◌^◌, ◌<◌, IsTrue, length, Some, OnOk, IfOk, IfSome, IfNone};
 ghost use Rattle.pair_colours.specs.Colouring.{IsColouring};
 ghost use Rattle.trace_text.specs.Split.{HasParts, IsSplit, Lead, NamesClasses, split_of};
 ghost use Rattle.trace_text.specs.Chains.{Follows, IsStageOf, stage_end, stage_start};
 ghost use Rattle.trace_text.specs.BadLines.{IsFirstFailing, line_count_of_stage, stage_conditions, step_conditions};
-ghost use Rattle.trace_text.proofs.Stages.{IsEnd};
-ghost use Rattle.trace_check.specs.Ends.{before_of, ended_of};
+ghost use Rattle.trace_check.specs.Ends.{before_of};
+ghost use Rattle.trace_text.specs.Ends.{IsEnd};
 
 use crate::partitions::{first_start, later_start};
 use pair_colours::{Colouring, NoMemory};
@@ -103,32 +103,32 @@ fn start(
     }
 }
 
-// Where a stage that begins with this line ends, or its first bad line.
+// Goes through a stage that begins with this line, after the last one, and then that is the last; or
+// gives its first bad line.
 pub(crate) fn replay<'a>(
     alloc: Global,
-    before: &Option<Ended<'_>>,
+    last: &mut Option<Ended<'a>>,
     stage: &'a Stage,
     line: u32,
-) -> Result<Result<Ended<'a>, BadLine>, NoMemory>
-    requires before { IsEnd (before_of before.now) }
+) -> Result<Option<BadLine>, NoMemory>
+    requires before { IsEnd (before_of last.old) }
     requires lines { line + line_count_of_stage stage.now < 2 ^ 32 }
-    ensures ended { IfOk result (λ end. IfOk end (λ end. ended_of end ≡ stage_end (before_of before.now) stage.now)) }
-    ensures stage { IfOk result (λ end. IfOk end (λ end. IsStageOf (before_of before.now) stage.now (ended_of end).partition)) }
-    ensures between { IfOk result (λ end. IfOk end (λ end. IsEnd (Some (ended_of end)))) }
-    ensures refused { IfOk result (λ end. IfErr end (λ bad. IsFirstFailing (stage_conditions line (before_of before.now) stage.now) bad.line bad.what)) }
+    ensures ended { IfOk result (λ bad. IfNone bad (before_of last.new ≡ Some (stage_end (before_of last.old) stage.now))) }
+    ensures stage { IfOk result (λ bad. IfNone bad (IsStageOf (before_of last.old) stage.now (stage_end (before_of last.old) stage.now).partition)) }
+    ensures between { IfOk result (λ bad. IfNone bad (IsEnd (Some (stage_end (before_of last.old) stage.now)))) }
+    ensures refused { IfOk result (λ bad. IfSome bad (λ bad. IsFirstFailing (stage_conditions line (before_of last.old) stage.now) bad.line bad.what)) }
 {
     let first_step = line + 1 + stage.colours.size();
-    let Some(mut cells) = start(alloc, before, &stage.colours)? else {
-        return Ok(Err(BadLine {
+    let Some(mut cells) = start(alloc, last, &stage.colours)? else {
+        return Ok(Some(BadLine {
             line,
             what: CheckWord::StageNotRefining,
         }));
     };
-    match follow(alloc, &mut cells, &stage.steps, first_step)? {
-        None => Ok(Ok(Ended {
-            colours: &stage.colours,
-            cells,
-        })),
-        Some(bad) => Ok(Err(bad)),
-    }
+    let bad = follow(alloc, &mut cells, &stage.steps, first_step)?;
+    *last = Some(Ended {
+        colours: &stage.colours,
+        cells,
+    });
+    Ok(bad)
 }

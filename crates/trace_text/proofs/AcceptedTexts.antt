@@ -22,7 +22,8 @@ use Rattle.trace_text.proofs.RawNumbers.{raw_from}
 use Rattle.trace_text.proofs.Partitions.{IsPartition-named_of}
 use Rattle.trace_text.proofs.Ranks.{rank_of-le_pairs}
 use Rattle.trace_text.proofs.Splits.{IsPartition-split_of}
-use Rattle.trace_text.proofs.Stages.{IsEnd, IsBetween, start_between, end_between, stages_between}
+use Rattle.trace_text.proofs.Stages.{start_between, end_between, stages_between}
+use Rattle.trace_text.specs.Ends.{IsEnd, IsBetween}
 
 -- a partition has no more classes than the most pairs
 few_classes : (P : PairColouring) → IsPartition P → P.size ≤ MOST_POINTS → rank_of P ≤ MOST_POINTS * MOST_POINTS

@@ -11,11 +11,12 @@ use Rattle.trace_text.specs.declared.reader.After.TheVariants as ends
 use Rattle.trace_text.specs.declared.trace_faults.TraceFault.{TraceFault}
 use Rattle.trace_text.specs.declared.step_list.Step.{Step}
 use Rattle.trace_text.specs.declared.stage_list.Stage.{Stage}
-use Rattle.trace_text.specs.TraceText.{step_line, matrix_lines, stage_lines}
+use Rattle.trace_text.specs.TraceText.{step_line, stage_lines}
 use Rattle.trace_text.specs.TraceFault.{next_row, at_body, fault_from}
 use Rattle.trace_text.specs.ClaimTexts.{IsTraceStage, IsTraceStep}
 use Rattle.trace_text.specs.Reading.{IsFaultOf, after_line, after_place, rows_fault}
 use Rattle.trace_text.proofs.RowPlaces.{row_at, stage_rows, matrix_fault, matrix_clean}
+use Rattle.text_lines.specs.Rows.{matrix_lines}
 
 -- these stages were read, the first without its line, and the line that ends the last
 pub record ReadsChain (v n line0 : ℕ) (lines0 : List (List ℕ)) (line : ℕ) (lines : List (List ℕ)) (chain : List Stage) (after : After) : Type 0 where

@@ -1,10 +1,9 @@
 -- The conditions by line hold exactly where the stages of a claim are as they have to be.
 use Rattle.std.proofs.Common.{◌≡◌, ℕ, ◌+◌, ◌≤◌, List, [], ◌∷◌, ◌++◌, length, sum_by, Option, None, Some, refl, sym, ap, subst, ◌∙◌, arith}
-use Rattle.std.specs.List.{AllByRecursion}
 use Rattle.std.proofs.lemmas.List.{append_assoc}
 use Rattle.std.proofs.lemmas.List.Sums.{sum_by-cons}
 use Rattle.pair_colours.specs.Colouring.{PairColouring}
-use Rattle.pair_colours.proofs.ListLemmas.{Each-append}
+use Rattle.pair_colours.proofs.ListLemmas.{Each-append, Each-parts}
 use Rattle.trace_text.specs.declared.step_list.Step.{Step}
 use Rattle.trace_text.specs.declared.stage_list.Stage.{Stage}
 use Rattle.trace_text.specs.declared.stage_list.Claim.{Claim}
@@ -13,11 +12,6 @@ use Rattle.trace_text.specs.Chains.{StageEnd, Follows, stage_start, IsStageOf, s
 use Rattle.trace_text.specs.Acceptance.{Accepts}
 use Rattle.trace_text.specs.BadLines.{names_classes, has_parts, Holds, step_conditions, colours_conditions, stage_conditions, line_count_of_stage, chain_conditions, end_conditions, first_line, closure_line, conditions, AllHold}
 use Rattle.trace_text.proofs.Stages.{chain_ends}
-
--- what holds of each of two lists
-pub Each-parts : {X : Type 0} (P : X → Type 0) (xs ys : List X) → AllByRecursion P (xs ++ ys) → AllByRecursion P xs × AllByRecursion P ys
-Each-parts P [] ys a = (tt, a)
-Each-parts P (x ∷ xs) ys a = let r = Each-parts P xs ys a.1 in ((a.0, r.0), r.1)
 
 -- the conditions on steps
 pub lead_from_hold : (line : ℕ) (P : PairColouring) (steps : List Step) → AllHold (step_conditions line P steps) → Lead steps P (partition_after P steps)

@@ -9,10 +9,9 @@ use Rattle.std.proofs.lemmas.List.Concat.{length-flat_map}
 use Rattle.std.proofs.lemmas.List.Elements.{recursion_from_All, All-from_recursion}
 use Rattle.std.proofs.lemmas.List.FromFn.{length-range_with_len}
 use Rattle.std.proofs.lemmas.List.Sums.{sum_by-cons, sum_by-append}
-use Rattle.relation_text.specs.Written.{matrix_row}
 use Rattle.pair_colours.specs.Colouring.{PairColouring, IsColouring, IsRawColouring, colour_at, points}
 use Rattle.pair_colours.specs.declared.coloured_pairs.TheConstants.{MOST_COLOUR, MOST_POINTS}
-use Rattle.pair_colours.proofs.ListLemmas.{Each-map, Each-weaker, Each-points}
+use Rattle.pair_colours.proofs.ListLemmas.{Each-map, Each-weaker, Each-points, Each-parts}
 use Rattle.pair_colours.proofs.Places.{place_below}
 use Rattle.trace_text.specs.declared.limits.TheConstants.{MOST_STEP_NUMBER, MOST_TRACE}
 use Rattle.trace_text.specs.declared.step_list.Step.{Step}
@@ -21,12 +20,12 @@ use Rattle.trace_text.specs.declared.stage_list.Stage.{Stage}
 use Rattle.trace_text.specs.declared.stage_list.Claim.{Claim}
 use Rattle.trace_text.specs.Limits.{most_stages}
 use Rattle.trace_text.specs.Acceptance.{Accepts, step_count}
-use Rattle.trace_text.specs.TraceText.{step_line, matrix_lines, stage_lines, trace_lines, trace_text}
+use Rattle.trace_text.specs.TraceText.{step_line, stage_lines, trace_lines, trace_text}
 use Rattle.trace_text.specs.Versions.{IsVersioned}
 use Rattle.trace_text.specs.ClaimTexts.{IsTraceStep, IsTraceStage}
 use Rattle.trace_text.proofs.AcceptedTexts.{accepted_fits_trace}
-use Rattle.trace_text.proofs.Conditions.{Each-parts}
 use Rattle.trace_text.proofs.Stages.{fewer_steps_than_pairs}
+use Rattle.text_lines.specs.Rows.{matrix_row, matrix_lines}
 
 -- how many bytes lines take, each with its line end
 abbrev pub size_of_lines : List (List ℕ) → ℕ

@@ -1,5 +1,4 @@
 pub mod LawProofs
-pub mod Below
 pub mod Partitions
 pub mod Parting
 mod OneClass
@@ -17,18 +16,15 @@ pub mod Verdicts
 pub mod StepLoops
 pub mod StageLoops
 mod Worked
-mod LineNumbers
 mod LineReadings
 mod RawNumbers
-mod LinesLeft
-mod LinesBack
-mod ClaimLines
+mod ShownRows
+mod ShownStages
+mod ClaimShown
 mod LineBytes
 mod TraceReadings
 mod WrittenLines
-mod WordsLeft
 mod RowWords
-mod StepNumbers
 mod StepLines
 mod MatrixRows
 mod StepsRead

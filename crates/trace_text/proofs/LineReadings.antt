@@ -1,49 +1,21 @@
 -- From the lines of a trace to what they say, and back: line by line.
-use Rattle.std.proofs.Common.{◌≡◌, ◌&&◌, ◌||◌, ℕ, zero, suc, ◌≤◌, Bool, true, false, cond, eqb, leb, List, [], ◌∷◌, ◌++◌, length, drop, map, Option, Some, None, refl, sym, ap, subst, ◌∙◌, arith, ◌⊎◌, inl, inr}
-use Rattle.std.specs.Prelude.{codes, decimal, is_some, unwrap_or, nat_eq, bytes_eq}
-use Rattle.std.specs.List.{AllByRecursion, join_with_byte, starts_with}
-use Rattle.std.proofs.lemmas.Bool.{cases_Bool, eq-eqb, eqb-true, le-leb, leb-true}
-use Rattle.std.proofs.lemmas.Bool.Decides.{Decides-eqb}
+use Rattle.std.proofs.Common.{◌≡◌, ◌&&◌, ◌||◌, ℕ, zero, suc, Bool, true, false, cond, eqb, List, [], ◌∷◌, ◌++◌, map, Some, None, refl, sym, ap, subst, ◌∙◌, arith, ◌⊎◌, inl, inr}
+use Rattle.std.specs.Prelude.{codes, decimal, unwrap_or, bytes_eq}
+use Rattle.std.specs.List.{join_with_byte}
+use Rattle.std.proofs.lemmas.Bool.{cases_Bool, eq-eqb, eqb-true}
 use Rattle.std.proofs.lemmas.Fmt.{decimal_digit}
 use Rattle.std.proofs.lemmas.List.{append-nil}
-use Rattle.std.proofs.lemmas.Slice.Eq.{starts_is, bytes_eq-Decides}
-use Rattle.text_lines.specs.Number.{number_of}
-use Rattle.text_lines.specs.Joined.{spaced}
-use Rattle.text_lines.proofs.Numbers.{form-number_of}
-use Rattle.pair_colours.specs.declared.coloured_pairs.TheConstants.{MOST_COLOUR, MOST_POINTS}
 use Rattle.trace_text.specs.declared.step_list.Step.{Step}
 use Rattle.trace_text.specs.declared.step_list.Step.TheVariants.{Diag, Flip, Tri, Round}
 use Rattle.trace_text.specs.Split.{numbers_of}
 use Rattle.trace_text.specs.declared.limits.TheConstants.{MOST_STEP_NUMBER}
 use Rattle.trace_text.specs.TraceText.{step_line, letter_of}
-use Rattle.trace_text.specs.TraceFault.{between_spaces, is_row_line, is_lettered, is_step_line, version_on, points_on, are_numbers}
+use Rattle.trace_text.specs.TraceFault.{is_lettered, is_step_line, version_on}
 use Rattle.trace_text.specs.Versions.{IsVersion}
 use Rattle.trace_text.specs.ClaimTexts.{IsTraceStep}
-use Rattle.trace_text.proofs.LineNumbers.{both, HasNoSpace, split_join, join_split, value, number_of-decimal, value-decimal, WriteTo, write_values, are_numbers-decimal, values-decimal, small_numbers, decimals_no_space, between_spaces-spaced}
-
--- the numbers of a row line
-abbrev pub numbers_in : List ℕ → List ℕ
-numbers_in line = map value (between_spaces line)
-
-pub row_good : (n : ℕ) (numbers : List ℕ) → 1 ≤ n → length numbers ≡ n → AllByRecursion (λ c. c ≤ MOST_COLOUR) numbers
-    → (is_row_line n (spaced numbers) ≡ true) × (numbers_in (spaced numbers) ≡ numbers)
-row_good n [] h e a = absurd (omega (arith, h, e))
-row_good n (c ∷ cs) h e a =
-    let cut = between_spaces-spaced c cs (small_numbers MOST_COLOUR (omega arith) (c ∷ cs) a) in (
-      ap (are_numbers MOST_COLOUR n) cut ∙ are_numbers-decimal MOST_COLOUR n (c ∷ cs) (omega arith) e a,
-      ap (map value) cut ∙ values-decimal MOST_COLOUR (omega arith) (c ∷ cs) a,
-    )
-
--- the line is the row of n raw colours
-pub record IsRowOf (n : ℕ) (line numbers : List ℕ) : Type 0 where
-  pub count : length numbers ≡ n
-  pub spelled : line ≡ spaced numbers
-  pub small : AllByRecursion (λ c. c ≤ MOST_COLOUR) numbers
-
-pub row_back : (n : ℕ) (line : List ℕ) → is_row_line n line ≡ true → IsRowOf n line (numbers_in line)
-row_back n line h =
-    let w = write_values MOST_COLOUR n (between_spaces line) h in
-    record { count = w.count; spelled = sym (join_split line) ∙ ap (join_with_byte 32) w.spelled; small = w.small }
+use Rattle.text_lines.specs.LineNumbers.{between_spaces, are_numbers, value}
+use Rattle.text_lines.proofs.LineNumbers.{both, HasNoSpace, split_join, join_split, value-decimal, WriteTo, write_values, are_numbers-decimal, small_numbers, decimals_no_space}
+use Rattle.text_lines.proofs.PointsLine.{bytes_same, some_from}
 
 -- the step that words say
 abbrev pub step_of : List (List ℕ) → Step
@@ -105,9 +77,6 @@ step_other Round = (refl, refl)
 or_from : (a b : Bool) → (a || b) ≡ true → (a ≡ true) ⊎ (b ≡ true)
 or_from true b h = inl refl
 or_from false b h = inr h
-
-pub bytes_same : (xs ys : List ℕ) → bytes_eq xs ys ≡ true → xs ≡ ys
-bytes_same xs ys h = (bytes_eq-Decides xs ys).0 h
 
 -- the words are those of the step that they say, which the version has
 pub record AreStepWords (v : ℕ) (words : List (List ℕ)) : Type 0 where
@@ -171,10 +140,6 @@ step_back v line h =
     let w = words_back v (between_spaces line) h in
     record { spelled = sym (join_split line) ∙ ap (join_with_byte 32) w.spelled ∙ sym (step_line-words (step_in line)); small = w.small }
 
-pub some_from : {X : Type 0} (t : Bool) (o : Option X) (n : X) → cond t o None ≡ Some n → (t ≡ true) × (o ≡ Some n)
-some_from true o n e = (refl, e)
-some_from false o n e = absurd cc
-
 -- the first line
 pub version_good : (v : ℕ) → IsVersion v → version_on (codes "trace " ++ decimal v) ≡ Some v
 version_good zero h = absurd (omega (arith, h.least))
@@ -202,33 +167,3 @@ version_back line v e =
           let found = some_from b (Some 2) v (sym (ap (λ t. cond t (Some 1) (cond b (Some 2) None)) other) ∙ e) in
           version_told line v 2 (record { least = omega arith; most = omega arith }) (bytes_same line (codes "trace 2") found.0 ∙ ap (λ d. codes "trace " ++ d) (sym (decimal_digit 2 (omega arith)))) (ap (λ o. unwrap_or o 0) found.1)
     ]
-
--- the line of the number of points
-pub points_good : (n : ℕ) → 1 ≤ n → n ≤ MOST_POINTS → points_on (codes "points " ++ decimal n) ≡ Some n
-points_good n h l = let e = number_of-decimal n (omega (arith, l)) in let low = le-leb 1 n h in let high = le-leb n MOST_POINTS l in rw (e, low, high) refl
-
--- the line tells n points
-pub record IsPointsLine (line : List ℕ) (n : ℕ) : Type 0 where
-  pub spelled : line ≡ codes "points " ++ decimal n
-  pub some : 1 ≤ n
-  pub few : n ≤ MOST_POINTS
-
-pub points_back : (line : List ℕ) (n : ℕ) → points_on line ≡ Some n → IsPointsLine line n
-points_back line n h =
-    let word = drop 7 line in
-    let a = starts_with nat_eq line (codes "points ") in
-    let b = is_some (number_of word) in
-    let c = leb 1 (value word) in
-    let d = leb (value word) MOST_POINTS in
-    let found = some_from (a && b && c && d) (number_of word) n h in
-    let last = both (a && b && c) d found.0 in
-    let third = both (a && b) c last.0 in
-    let second = both a b third.0 in
-    let is : value word ≡ n = ap (λ o. unwrap_or o 0) found.1 in
-    let low = leb-true 1 (value word) third.1 in
-    let high = leb-true (value word) MOST_POINTS last.1 in
-    record {
-      spelled = (starts_is Decides-eqb line (codes "points ") a refl).0 second.0 ∙ ap (λ w. codes "points " ++ w) (form-number_of word n found.1).digits;
-      some = omega (arith, low, is);
-      few = omega (arith, high, is);
-    }

@@ -1,19 +1,18 @@
 -- A matrix that is read row by row.
-use Rattle.std.proofs.Common.{◌≡◌, ℕ, zero, suc, ◌+◌, ◌*◌, ◌-◌, ◌<◌, ◌≤◌, true, cond, List, [], ◌∷◌, ◌++◌, length, take, drop, Some, None, sym, ap, subst, ◌∙◌, arith}
+use Rattle.std.proofs.Common.{◌≡◌, ℕ, suc, ◌+◌, ◌*◌, ◌-◌, ◌<◌, ◌≤◌, true, cond, List, [], ◌∷◌, ◌++◌, length, take, Some, None, sym, ap, subst, ◌∙◌, arith}
 use Rattle.std.specs.List.{AllByRecursion}
-use Rattle.std.proofs.lemmas.List.{append_assoc, take_all, length-drop, drop-append-le, take-append-le, length-take-le}
+use Rattle.std.proofs.lemmas.List.{append_assoc, take_all, length-take-le}
 use Rattle.std.proofs.lemmas.Nat.{mul-le}
 use Rattle.text_lines.specs.Joined.{spaced}
 use Rattle.pair_colours.specs.Colouring.{PairColouring, IsColouring, IsRawColouring}
 use Rattle.pair_colours.specs.declared.coloured_pairs.TheConstants.{MOST_COLOUR, MOST_POINTS}
 use Rattle.pair_colours.proofs.ListLemmas.{Each-append}
-use Rattle.trace_text.specs.TraceText.{matrix_lines}
 use Rattle.trace_text.specs.TraceFault.{is_row_line}
 use Rattle.trace_text.specs.Reading.{rows_fault}
 use Rattle.trace_text.proofs.RawNumbers.{raw_from}
-use Rattle.trace_text.proofs.LineReadings.{numbers_in, row_back}
-use Rattle.trace_text.proofs.LinesLeft.{rows_of}
-use Rattle.trace_text.proofs.ClaimLines.{matrix_shown}
+use Rattle.text_lines.specs.Rows.{matrix_lines}
+use Rattle.text_lines.specs.LineNumbers.{numbers_on}
+use Rattle.text_lines.proofs.RowLines.{row_back, rows_of, rows_shown, rows_of-push}
 
 -- the first x rows were read
 pub record ReadsRows (n x line0 : ℕ) (lines0 : List (List ℕ)) (line : ℕ) (lines : List (List ℕ)) (c : PairColouring) : Type 0 where
@@ -24,26 +23,16 @@ pub record ReadsRows (n x line0 : ℕ) (lines0 : List (List ℕ)) (line : ℕ) (
   pub small : AllByRecursion (λ k. k ≤ MOST_COLOUR) (take (x * n) c.colours)
   pub number : line ≡ line0 + x
 
--- one more row at the end
-rows_of-push : (n x : ℕ) (xs ys : List ℕ) → length xs ≡ x * n → length ys ≡ n → rows_of n (x + 1) (xs ++ ys) ≡ rows_of n x xs ++ spaced ys ∷ []
-rows_of-push n zero [] ys e f = ap (λ l. spaced l ∷ []) (take_all n ys (omega (arith, f)))
-rows_of-push n zero (x ∷ xs) ys e f = absurd (omega (arith, e))
-rows_of-push n (suc k) xs ys e f =
-    let long : n ≤ length xs = omega (arith, e) in
-    let rest = rows_of-push n k (drop n xs) ys (omega (arith, e, length-drop n xs)) f in
-    let more : suc k + 1 ≡ suc (k + 1) = omega arith in
-    ap (λ m. rows_of n m (xs ++ ys)) more ∙ λ i. spaced (take-append-le n xs ys long i) ∷ (ap (rows_of n (k + 1)) (drop-append-le n xs ys long) ∙ rest) i
-
 -- the next line is a row or not
 rows_fault-next : (n x line : ℕ) (lines : List (List ℕ)) → x < n → rows_fault n (n - x) line lines ≡ rows_fault n (suc (n - (x + 1))) line lines
 rows_fault-next n x line lines h = let more : n - x ≡ suc (n - (x + 1)) = omega (arith, h) in ap (λ m. rows_fault n m line lines) more
 
 pub rows_more : (n x line0 : ℕ) (lines0 : List (List ℕ)) (line : ℕ) (lines rest : List (List ℕ)) (row : List ℕ) (c d : PairColouring) → ReadsRows n x line0 lines0 line lines c → x < n → lines ≡ row ∷ rest → is_row_line n row ≡ true
-    → d.size ≡ n → IsColouring d → take (x * n + n) d.colours ≡ take (x * n) c.colours ++ numbers_in row → (next : ℕ) → next ≡ line + 1 → ReadsRows n (x + 1) line0 lines0 next rest d
+    → d.size ≡ n → IsColouring d → take (x * n + n) d.colours ≡ take (x * n) c.colours ++ numbers_on row → (next : ℕ) → next ≡ line + 1 → ReadsRows n (x + 1) line0 lines0 next rest d
 rows_more n x line0 lines0 line lines rest row c d r h e good size colouring taken next after =
-    let back = row_back n row good in
+    let back = row_back MOST_COLOUR n row good in
     let same : (x + 1) * n ≡ x * n + n = omega arith in
-    let colours : take ((x + 1) * n) d.colours ≡ take (x * n) c.colours ++ numbers_in row = ap (λ k. take k d.colours) same ∙ taken in
+    let colours : take ((x + 1) * n) d.colours ≡ take (x * n) c.colours ++ numbers_on row = ap (λ k. take k d.colours) same ∙ taken in
     let room : x * n ≤ length c.colours = omega (arith, mul-le x n n n (omega (arith, h)) (omega arith), r.colouring.has_pairs ∙ ap (λ k. k * k) r.size) in
     record {
       size = size;
@@ -51,9 +40,9 @@ rows_more n x line0 lines0 line lines rest row c d r h e good size colouring tak
       faults = r.faults ∙ rows_fault-next n x line lines h ∙ ap (rows_fault n (suc (n - (x + 1))) line) e
           ∙ ap (λ b. cond b (rows_fault n (n - (x + 1)) (line + 1) rest) (Some line)) good ∙ ap (λ l. rows_fault n (n - (x + 1)) l rest) (sym after);
       rows = r.rows ∙ ap (λ l. rows_of n x (take (x * n) c.colours) ++ l) (e ∙ ap (λ l. l ∷ rest) back.spelled)
-          ∙ sym (append_assoc (rows_of n x (take (x * n) c.colours)) (spaced (numbers_in row) ∷ []) rest)
-          ∙ ap (λ l. l ++ rest) (sym (ap (rows_of n (x + 1)) colours ∙ rows_of-push n x (take (x * n) c.colours) (numbers_in row) (length-take-le (x * n) c.colours room) back.count));
-      small = subst (AllByRecursion (λ k. k ≤ MOST_COLOUR)) (sym colours) (Each-append (λ k. k ≤ MOST_COLOUR) (take (x * n) c.colours) (numbers_in row) r.small back.small);
+          ∙ sym (append_assoc (rows_of n x (take (x * n) c.colours)) (spaced (numbers_on row) ∷ []) rest)
+          ∙ ap (λ l. l ++ rest) (sym (ap (rows_of n (x + 1)) colours ∙ rows_of-push n x (take (x * n) c.colours) (numbers_on row) (length-take-le (x * n) c.colours room) back.count));
+      small = subst (AllByRecursion (λ k. k ≤ MOST_COLOUR)) (sym colours) (Each-append (λ k. k ≤ MOST_COLOUR) (take (x * n) c.colours) (numbers_on row) r.small back.small);
       number = after ∙ ap (λ l. l + 1) r.number ∙ omega arith;
     }
 
@@ -70,7 +59,7 @@ rows_all n x line0 lines0 line lines c few r e =
     let all : take (x * n) c.colours ≡ c.colours = take_all (x * n) c.colours (omega (arith, r.colouring.has_pairs ∙ ap (λ k. k * k) r.size, ap (λ k. k * n) e)) in
     let none : n - x ≡ 0 = omega (arith, e) in
     record {
-      rows = r.rows ∙ ap (λ l. l ++ lines) (ap (rows_of n x) all ∙ (λ i. rows_of (sym r.size i) ((e ∙ sym r.size) i) c.colours) ∙ sym (matrix_shown c r.colouring));
+      rows = r.rows ∙ ap (λ l. l ++ lines) (ap (rows_of n x) all ∙ (λ i. rows_of (sym r.size i) ((e ∙ sym r.size) i) c.colours) ∙ sym (rows_shown c r.colouring));
       points = r.size;
       raw = raw_from c r.colouring (omega (arith, r.size, few)) (subst (AllByRecursion (λ k. k ≤ MOST_COLOUR)) all r.small);
       clean = r.faults ∙ ap (λ m. rows_fault n m line lines) none;

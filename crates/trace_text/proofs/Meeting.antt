@@ -6,25 +6,9 @@ use Rattle.pair_colours.specs.Closure.{Coherent, IsClosureOf}
 use Rattle.pair_colours.specs.Naming.{rank_of, named_of, IsNamedMeet}
 use Rattle.pair_colours.proofs.Closures.{IsColouring-named_of, named_of-refines, refines-named_of, named_of-named_of}
 use Rattle.pair_colours.proofs.Exists.{colour_at-by_pairs, IsColouring-by_pairs}
-use Rattle.pair_colours.proofs.Names.{named_of-same}
 use Rattle.pair_colours.proofs.Places.{Refines-trans}
 use Rattle.trace_text.specs.Partition.{IsPartition, coloured_by, meet_of}
-
--- what refines both refines the meet
-pub meet_below : (Q A B M : PairColouring) → IsNamedMeet A B M → Refines Q A → Refines Q B → Refines Q M
-meet_below Q A B M m r s = record {
-  sizes = r.sizes ∙ sym m.first.sizes;
-  classes = λ x y u v hx hy hu hv e.
-      m.together x y u v (to x hx) (to y hy) (to u hu) (to v hv) (r.classes x y u v hx hy hu hv e) (s.classes x y u v hx hy hu hv e);
-}
-  where
-    to : (z : ℕ) → z < Q.size → z < M.size
-    to z l = omega (arith, l, r.sizes, m.first.sizes)
-
--- a named meet is one
-pub IsNamedMeet-unique : (A B M N : PairColouring) → IsNamedMeet A B M → IsNamedMeet A B N → M ≡ N
-IsNamedMeet-unique A B M N m n =
-    sym m.named ∙ named_of-same M N m.colouring n.colouring (meet_below M A B N n m.first m.second) (meet_below N A B M m n.first n.second) ∙ n.named
+use Rattle.pair_colours.proofs.Meets.{meet_below}
 
 -- both colours as one number
 abbrev joined : PairColouring → PairColouring → PairColouring

@@ -10,7 +10,7 @@ use Rattle.pair_colours.proofs.Names.{InSquare, Each-walk}
 use Rattle.pair_colours.proofs.Places.{row_below, column_below}
 use Rattle.trace_text.specs.Split.{has_smaller_key, later_keys, parted_by, key_in_class}
 use Rattle.trace_text.specs.Parts.{keys_in, part_number, class_parted_by}
-use Rattle.trace_text.proofs.Below.{bounded, below, below_none, below_next, below_all, below-lt, below-le, met_once}
+use Rattle.pair_colours.proofs.Below.{bounded, below, below_none, below_next, below_all, below-lt, below-le, met_once}
 use Rattle.trace_text.proofs.Parting.{any_holds, HasKey, key_counts, key_found, key_of_place, place_below_keys, moves, smaller_moves, smaller_found}
 
 -- the pairs of class k

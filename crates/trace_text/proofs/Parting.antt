@@ -1,26 +1,17 @@
 -- What keys make of a partition.
-use Rattle.std.proofs.Common.{◌≡◌, ◌==◌, ◌&&◌, ◌||◌, nat_lt, ℕ, ◌+◌, ◌-◌, ◌<◌, ◌≤◌, Bool, true, false, cond, List, [], ◌∷◌, length, map, filter, count_by, ⊎_elim, refl, sym, ap, subst, ◌∙◌, arith, if◌then◌else◌}
+use Rattle.std.proofs.Common.{◌≡◌, ◌==◌, ◌&&◌, ◌||◌, nat_lt, ℕ, ◌+◌, ◌-◌, ◌<◌, ◌≤◌, Bool, true, false, List, [], ◌∷◌, length, map, filter, count_by, ⊎_elim, refl, sym, ap, ◌∙◌, arith, if◌then◌else◌}
 use Rattle.std.specs.List.{AllByRecursion, list_any}
 use Rattle.std.proofs.lemmas.Bool.{cases_lt, cases_Bool, eq-eqb, eqb-true, and_from, and_parts, lt-ltb, ltb-true}
 use Rattle.std.proofs.lemmas.List.Sums.{count_by-le-length}
 use Rattle.pair_colours.specs.Colouring.{PairColouring, IsColour, Refines, colour_at}
 use Rattle.pair_colours.specs.Naming.{walk, first_met, rank_of}
-use Rattle.pair_colours.proofs.ListLemmas.{Each-map, Each-weaker, list_any-map, list_any-filter}
+use Rattle.pair_colours.proofs.ListLemmas.{Each-map, Each-weaker, list_any-map, list_any-filter, Each-passed}
 use Rattle.pair_colours.proofs.Names.{InSquare, Each-walk, Each-first_met, met_all, list_any-walk}
 use Rattle.pair_colours.proofs.Exists.{colour_at-by_pairs, IsColouring-by_pairs}
 use Rattle.trace_text.specs.Partition.{IsPartition}
 use Rattle.trace_text.specs.Split.{has_smaller_key, later_keys, parted_by}
-use Rattle.trace_text.proofs.Below.{bounded, below, below_all, below_next, below-lt, met_once, counted_from_any, holds_where_counted, number_with_below}
+use Rattle.pair_colours.proofs.Below.{bounded, below, below_all, below_next, below-lt, met_once, counted_from_any, holds_where_counted, number_with_below}
 use Rattle.trace_text.proofs.Partitions.{UsesBelow, rank_from_used, IsPartition-from_used}
-
--- what passes a filter has passed its test
-Each-passed : {X : Type 0} (q : X → Bool) (P : X → Type 0) (ks : List X) → AllByRecursion P ks → AllByRecursion (λ y. P y × (q y ≡ true)) (filter q ks)
-Each-passed q P [] a = tt
-Each-passed {X} q P (k ∷ ks) a = by (q k) refl (Each-passed q P ks a.1)
-  where
-    by : (b : Bool) → q k ≡ b → AllByRecursion (λ y. P y × (q y ≡ true)) (filter q ks) → AllByRecursion (λ y. P y × (q y ≡ true)) (filter q (k ∷ ks))
-    by true e r = subst (λ b. AllByRecursion (λ y. P y × (q y ≡ true)) (cond b (k ∷ filter q ks) (filter q ks))) (sym e) ((a.0, e), r)
-    by false e r = subst (λ b. AllByRecursion (λ y. P y × (q y ≡ true)) (cond b (k ∷ filter q ks) (filter q ks))) (sym e) r
 
 -- some element that passes has what all have
 pub any_holds : {X : Type 0} (q : X → Bool) (P : X → Type 0) (ks : List X) → AllByRecursion P ks → list_any q ks ≡ true → (y : X) × P y × (q y ≡ true)
@@ -63,7 +54,7 @@ module _ (P : PairColouring) (key : ℕ → ℕ → ℕ) (test : ℕ × ℕ → 
       (Each-weaker (λ p. InSquare P.size p × (test p ≡ true)) (λ p. HasKey (key p.0 p.1))
       (λ p l. record { x = p.0; y = p.1; row = l.0.0; column = l.0.1; passes = l.1; is = refl })
       (filter test (walk P.size))
-      (Each-passed test (InSquare P.size) (walk P.size) (Each-walk P.size)))))
+      (Each-passed (InSquare P.size) test (walk P.size) (Each-walk P.size)))))
       h
 
   once : (t : ℕ) → count_by (λ o. t == o) keys_where ≤ 1

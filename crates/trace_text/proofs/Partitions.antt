@@ -12,7 +12,7 @@ use Rattle.pair_colours.proofs.Names.{along, met_all, list_any-walk, Each-first_
 use Rattle.pair_colours.proofs.Closures.{met_at, colour_at-named_of, IsColouring-named_of}
 use Rattle.pair_colours.proofs.Exists.{IsColouring-by_pairs}
 use Rattle.trace_text.specs.Partition.{IsPartition, coloured_by, meet_of}
-use Rattle.trace_text.proofs.Below.{below_all, below_each, met_once, counted_from_any, holds_where_counted}
+use Rattle.pair_colours.proofs.Below.{below_all, below_each, met_once, counted_from_any, holds_where_counted}
 
 -- a colour counts among those met
 pub colour_counts : (A : PairColouring) (c : ℕ) → IsColour A c → 0 < count_by (λ y. c == y) (colours_met A)

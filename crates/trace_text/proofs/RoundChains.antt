@@ -19,7 +19,8 @@ use Rattle.trace_text.specs.Versions.{HasStep, IsVersioned}
 use Rattle.trace_text.specs.RoundChains.{AreRounds, AreRoundStages, IsRoundChain, AreFollowing}
 use Rattle.trace_text.proofs.RoundSteps.{IsAllowed-round, rank_of-round, has_parts_or_not, round_is_idle_on_coherent}
 use Rattle.trace_text.proofs.Splits.{IsPartition-split_of}
-use Rattle.trace_text.proofs.Stages.{IsBetween, IsEnd, start_between, end_between, stages_between, closure_at_end}
+use Rattle.trace_text.proofs.Stages.{start_between, end_between, stages_between, closure_at_end}
+use Rattle.trace_text.specs.Ends.{IsBetween, IsEnd}
 
 -- rounds lead on, each by a split
 pub lead_from_rounds : (steps : List Step) (P : PairColouring) → AreRounds steps P → Lead steps P (partition_after P steps)

@@ -16,11 +16,12 @@ use Rattle.trace_text.specs.declared.step_list.Step.TheVariants.{Round}
 use Rattle.trace_text.specs.Partition.{IsPartition, meet_of}
 use Rattle.trace_text.specs.Split.{later_keys, key_of, HasParts, split_of, IsAllowed, partition_after}
 use Rattle.trace_text.specs.RoundChains.{AreRounds}
-use Rattle.trace_text.proofs.Meeting.{IsNamedMeet-unique, IsNamedMeet-meet_of}
+use Rattle.trace_text.proofs.Meeting.{IsNamedMeet-meet_of}
 use Rattle.trace_text.proofs.Partitions.{rank_of-named_of}
 use Rattle.trace_text.proofs.Parting.{two_keys, parted_together, parted_apart, rank_of-parted_by}
 use Rattle.trace_text.proofs.Reaching.{coherent_from, coherent_no_step}
 use Rattle.trace_text.proofs.Splits.{key_of-apart, IsPartition-split_of}
+use Rattle.pair_colours.proofs.Meets.{IsNamedMeet-unique}
 
 -- one partition: a relation that is reflexive, symmetric and transitive
 pub IsSamePartition-refl : (A : PairColouring) → IsSamePartition A A

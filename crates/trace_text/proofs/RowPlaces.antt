@@ -4,15 +4,14 @@ use Rattle.std.specs.Prelude.{option_map}
 use Rattle.std.proofs.Math.Seq.{drop-append_seam}
 use Rattle.std.proofs.lemmas.Bool.{cases_Bool}
 use Rattle.std.proofs.lemmas.List.FromFn.{length-map-range_with_len}
-use Rattle.relation_text.specs.Written.{matrix_row}
 use Rattle.pair_colours.specs.Colouring.{PairColouring}
 use Rattle.trace_text.specs.declared.trace_faults.TraceFault.{TraceFault}
 use Rattle.trace_text.specs.declared.trace_faults.TraceFault.TheVariants.{Text, NoMemory}
 use Rattle.trace_text.specs.declared.trace_faults.TraceWord.{TraceWord}
 use Rattle.trace_text.specs.declared.trace_faults.TraceWord.TheVariants.{Row}
-use Rattle.trace_text.specs.TraceText.{matrix_lines}
 use Rattle.trace_text.specs.TraceFault.{Place, at_row, at_closure_row, is_row_line, next_row, next_closure_row, fault_from, fault_on}
 use Rattle.trace_text.specs.Reading.{IsFaultOf, rows_fault}
+use Rattle.text_lines.specs.Rows.{matrix_row, matrix_lines}
 
 -- where k rows of n colours are to come, `place k` is expected
 pub record AreRowPlaces (n : ℕ) (place : ℕ → Place) : Type 0 where

@@ -13,9 +13,10 @@ use Rattle.trace_text.specs.Split.{Lead}
 use Rattle.trace_text.specs.Chains.{StageEnd, Follows, stage_start, IsStageOf, stage_end, chain_end, AreStages}
 use Rattle.trace_text.specs.Acceptance.{step_count}
 use Rattle.trace_text.specs.BadLines.{refines_stage, ends_coherent, names_end, step_conditions, colours_conditions, stage_conditions, line_count_of_stage, chain_conditions, end_conditions, first_line, closure_line, IsFirstFailing, IsFirstBadLine}
-use Rattle.trace_text.proofs.Stages.{IsEnd, stage_end-is, AreStages-push, chain_end-push, some_end}
+use Rattle.trace_text.proofs.Stages.{stage_end-is, AreStages-push, chain_end-push, some_end}
 use Rattle.trace_text.proofs.Conditions.{hold_from_follows, hold_from_stages, chain_conditions-append}
 use Rattle.trace_text.proofs.Verdicts.{failing_after, failing_before}
+use Rattle.trace_text.specs.Ends.{IsEnd}
 
 -- a stage whose colours do not refine those before
 pub not_following : (line : ℕ) (before : Option StageEnd) (stage : Stage) → ¬ Follows before stage.colours

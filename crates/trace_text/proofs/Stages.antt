@@ -18,19 +18,9 @@ use Rattle.trace_text.specs.Acceptance.{Accepts, step_count}
 use Rattle.trace_text.proofs.Partitions.{IsPartition-named_of, IsPartition-meet_of, rank_of-named_of}
 use Rattle.trace_text.proofs.Ranks.{rank_of-le_pairs, rank_of-le_finer, rank_of-some}
 use Rattle.trace_text.proofs.Leads.{lead_below, lead_after}
-use Rattle.trace_text.proofs.Meeting.{meet_below, IsNamedMeet-meet_of}
-
--- a partition that refines C, and that every coherent colouring that refines C refines
-pub record IsBetween (C P : PairColouring) : Type 0 where
-  pub colours : IsColouring C
-  pub partition : IsPartition P
-  pub refines : Refines P C
-  pub keeps : (Q : PairColouring) → IsColouring Q → Coherent Q → Refines Q C → Refines Q P
-
--- where the stages up to here ended
-abbrev pub IsEnd : Option StageEnd → Type 0
-IsEnd None = Unit {0}
-IsEnd (Some before) = IsBetween before.colours before.partition
+use Rattle.trace_text.proofs.Meeting.{IsNamedMeet-meet_of}
+use Rattle.pair_colours.proofs.Meets.{meet_below}
+use Rattle.trace_text.specs.Ends.{IsBetween, IsEnd}
 
 -- a stage starts between
 pub start_between : (before : Option StageEnd) (C : PairColouring) → IsEnd before → IsColouring C → Follows before C → IsBetween C (stage_start before C)

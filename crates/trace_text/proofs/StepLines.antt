@@ -6,9 +6,10 @@ use Rattle.std.proofs.lemmas.List.{get_or-take}
 use Rattle.trace_text.specs.declared.step_list.Step.{Step}
 use Rattle.trace_text.specs.declared.step_list.Step.TheVariants.{Diag, Flip, Tri, Round}
 use Rattle.trace_text.specs.declared.limits.TheConstants.{MOST_STEP_NUMBER}
-use Rattle.trace_text.specs.TraceFault.{between_spaces, are_numbers, is_lettered}
-use Rattle.trace_text.proofs.LineNumbers.{value, write_values}
+use Rattle.trace_text.specs.TraceFault.{is_lettered}
 use Rattle.trace_text.proofs.LineReadings.{is_step, step_of, step_back, IsLineOf}
+use Rattle.text_lines.specs.LineNumbers.{between_spaces, are_numbers, value}
+use Rattle.text_lines.proofs.LineNumbers.{write_values}
 
 or-first : (a b c d : Bool) → a ≡ true → (a || b || c || d) ≡ true
 or-first true b c d e = refl

@@ -6,12 +6,15 @@ use Rattle.pair_colours.specs.declared.coloured_pairs.TheConstants.{MOST_POINTS}
 use Rattle.trace_text.specs.declared.trace_faults.TraceFault.{TraceFault}
 use Rattle.trace_text.specs.declared.trace_faults.TraceFault.TheVariants.{Text}
 use Rattle.trace_text.specs.declared.trace_faults.TraceWord.TheVariants.{Points, Stage, End, Extra}
-use Rattle.trace_text.specs.TraceFault.{at_head, at_points, at_stage, at_end, at_extra, next_row, next_closure_row, versioned, sized, points_on, fault_from, fault_on}
-use Rattle.trace_text.specs.TraceText.{matrix_lines}
+use Rattle.trace_text.specs.TraceFault.{at_head, at_points, at_stage, at_end, at_extra, next_row, next_closure_row, versioned, sized, fault_from, fault_on}
 use Rattle.trace_text.specs.Versions.{IsVersion}
-use Rattle.trace_text.specs.Reading.{Cursor, IsFaultOf, first_passes, rows_fault}
-use Rattle.trace_text.proofs.LineReadings.{version_good, points_good}
+use Rattle.trace_text.specs.Reading.{IsFaultOf, rows_fault}
+use Rattle.trace_text.proofs.LineReadings.{version_good}
 use Rattle.trace_text.proofs.RowPlaces.{closure_rows, matrix_clean}
+use Rattle.text_lines.specs.PointsLine.{points_on}
+use Rattle.text_lines.specs.Rows.{matrix_lines}
+use Rattle.text_lines.specs.LineCursor.{Cursor, first_passes}
+use Rattle.text_lines.proofs.PointsLine.{points_good}
 
 none_from : {X : Type 0} (o : Option X) → is_some o ≡ false → o ≡ None
 none_from None e = refl

@@ -3,13 +3,13 @@ use Rattle.std.proofs.Common.{◌≡◌, ℕ, ◌≤◌, List, [], ◌∷◌, �
 use Rattle.std.proofs.lemmas.Bool.{cases_lt}
 use Rattle.std.proofs.lemmas.List.{append_assoc}
 use Rattle.pair_colours.specs.Naming.{rank_of, named_of}
-use Rattle.pair_colours.proofs.ListLemmas.{Each-append}
+use Rattle.pair_colours.proofs.ListLemmas.{Each-append, Each-parts}
 use Rattle.trace_text.specs.declared.check_words.CheckWord.{CheckWord}
 use Rattle.trace_text.specs.declared.stage_list.Claim.{Claim}
 use Rattle.trace_text.specs.Split.{numbers_of, later_keys, key_of}
 use Rattle.trace_text.specs.Acceptance.{Accepts}
 use Rattle.trace_text.specs.BadLines.{Condition, refines_stage, names_classes, has_parts, ends_coherent, names_end, Holds, word_of, conditions, AllHold, IsFirstFailing, IsFirstBadLine}
-use Rattle.trace_text.proofs.Conditions.{Each-parts, accepts_from_hold, hold_from_accepts}
+use Rattle.trace_text.proofs.Conditions.{accepts_from_hold, hold_from_accepts}
 use Rattle.trace_text.proofs.Decided.{refines_or_not, coherent_or_not, all_below_or_not, same_or_not}
 
 -- each condition holds or not

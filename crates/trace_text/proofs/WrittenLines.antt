@@ -1,31 +1,16 @@
 -- Texts that are written line by line.
-use Rattle.std.proofs.Common.{◌≡◌, ℕ, ◌+◌, List, [], ◌∷◌, ◌++◌, map, take, refl, sym, ap, ◌∙◌}
+use Rattle.std.proofs.Common.{◌≡◌, ℕ, ◌+◌, List, [], ◌∷◌, ◌++◌, map, take, sym, ap, ◌∙◌}
 use Rattle.std.specs.Prelude.{codes, decimal, slice_get, Some}
 use Rattle.std.specs.List.{flat_map}
 use Rattle.std.proofs.lemmas.List.{append_assoc, append-nil, take_more, map-append}
 use Rattle.std.proofs.lemmas.Option.{slice_get_within, get_or_from_slice_get}
-use Rattle.relation_text.specs.Written.{matrix_row, matrix_rows}
-use Rattle.pair_colours.specs.Colouring.{PairColouring, points}
 use Rattle.trace_text.specs.declared.step_list.Step.{Step}
 use Rattle.trace_text.specs.declared.stage_list.Stage.{Stage}
 use Rattle.trace_text.specs.declared.stage_list.Claim.{Claim}
-use Rattle.trace_text.specs.TraceText.{lines_text, step_line, matrix_lines, stage_lines, trace_text}
-
-pub lines_text-append : (xs ys : List (List ℕ)) → lines_text (xs ++ ys) ≡ lines_text xs ++ lines_text ys
-lines_text-append [] ys = refl
-lines_text-append (x ∷ xs) ys = ap (λ t. (x ++ codes "\n") ++ t) (lines_text-append xs ys) ∙ sym (append_assoc (x ++ codes "\n") (lines_text xs) (lines_text ys))
-
-rows_map : (C : PairColouring) (xs : List ℕ) → flat_map (λ x. matrix_row C x ++ codes "\n") xs ≡ lines_text (map (matrix_row C) xs)
-rows_map C [] = refl
-rows_map C (x ∷ xs) = ap (λ t. (matrix_row C x ++ codes "\n") ++ t) (rows_map C xs)
-
-pub rows_text : (C : PairColouring) → matrix_rows C ≡ lines_text (matrix_lines C)
-rows_text C = rows_map C (points C.size)
-
--- more lines after a text
-pub text_more : (start old new : List ℕ) (lines next : List (List ℕ)) → old ≡ start ++ lines_text lines → new ≡ old ++ lines_text next → new ≡ start ++ lines_text (lines ++ next)
-text_more start old new lines next before after =
-    after ∙ ap (λ t. t ++ lines_text next) before ∙ append_assoc start (lines_text lines) (lines_text next) ∙ ap (λ t. start ++ t) (sym (lines_text-append lines next))
+use Rattle.trace_text.specs.TraceText.{step_line, stage_lines, trace_text}
+use Rattle.text_lines.specs.Rows.{matrix_rows, matrix_lines}
+use Rattle.text_lines.specs.LinesText.{lines_text}
+use Rattle.text_lines.proofs.LinesText.{text_more, rows_text}
 
 -- one more step
 pub step_more : (start old new : List ℕ) (steps : List Step) (place : ℕ) (s : Step) → old ≡ start ++ lines_text (map step_line (take place steps))

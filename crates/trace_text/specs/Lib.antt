@@ -2,6 +2,7 @@ pub mod Partition
 pub mod Split
 pub mod Parts
 pub mod Chains
+pub mod Ends
 pub mod Acceptance
 pub mod BadLines
 pub mod Law

@@ -1,37 +1,16 @@
 -- What the parts of the reader say: the lines that are left, and what was read of them.
-use Rattle.std.specs.Prelude.{◌≡◌, ℕ, suc, zero, ◌+◌, ◌∷◌, [], List, Bool, false, map, Option, None, Some, unwrap_or, codes, ⊤, if◌then◌else◌}
-use Rattle.std.specs.Borrow.{Bor}
-use Rattle.text_lines.specs.Number.{number_of}
+use Rattle.std.specs.Prelude.{◌≡◌, ℕ, suc, zero, ◌+◌, ◌∷◌, [], List, Option, None, Some, codes, ⊤, if◌then◌else◌}
 use Rattle.trace_text.specs.declared.trace_faults.TraceWord.{TraceWord}
 use Rattle.trace_text.specs.declared.trace_faults.TraceFault.{TraceFault}
 use Rattle.trace_text.specs.declared.trace_faults.TraceFault.TheVariants.{Text, NoMemory}
-use Rattle.trace_text.specs.TraceFault.{Place, between_spaces, is_row_line, next_row, next_closure_row}
+use Rattle.trace_text.specs.TraceFault.{Place, is_row_line, next_row, next_closure_row}
 use Rattle.trace_text.specs.declared.reader.After.{After}
 use Rattle.trace_text.specs.declared.reader.After.TheVariants.{Stage, Closure}
-
--- the lines that are left, and the number of the first of them
-pub record Cursor : Type 0 where
-  pub line : ℕ
-  pub lines : List (List ℕ)
 
 -- an answer that is not want of memory tells this fault
 abbrev pub IsFaultOf : TraceFault → Option (ℕ × TraceWord) → Type 0
 IsFaultOf (Text line what) fault = fault ≡ Some (line, what)
 IsFaultOf NoMemory fault = ⊤
-
--- there is a first line, and it passes the test
-abbrev pub first_passes : (List ℕ → Bool) → List (List ℕ) → Bool
-first_passes test [] = false
-first_passes test (line ∷ lines) = test line
-
--- the numbers that the words of a line write
-abbrev pub numbers_on : List ℕ → List ℕ
-numbers_on line = map (λ word. unwrap_or (number_of word) 0) (between_spaces line)
-
--- the words that are left of a line
-abbrev pub words_left : Option (Bor (List ℕ)) → List (List ℕ)
-words_left None = []
-words_left (Some rest) = between_spaces rest.now
 
 -- the line that ends the steps of a stage
 abbrev pub after_line : After → List ℕ

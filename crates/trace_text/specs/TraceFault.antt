@@ -1,12 +1,12 @@
 -- The first line of a text that may not stand in its place in a trace.
-use Rattle.std.specs.Prelude.{ℕ, suc, zero, ◌+◌, ◌==◌, ◌&&◌, ◌||◌, nat_le, Bool, false, List, [], ◌∷◌, length, map, codes, bytes_eq, Option, None, Some, unwrap_or, is_some, drop, nat_eq, if◌then◌else◌}
-use Rattle.std.specs.List.{slice_split, list_all, starts_with}
+use Rattle.std.specs.Prelude.{ℕ, suc, zero, ◌+◌, ◌==◌, ◌&&◌, ◌||◌, Bool, false, List, [], ◌∷◌, map, codes, bytes_eq, Option, None, Some, if◌then◌else◌}
 use Rattle.text_lines.specs.Lines.{lines_of}
-use Rattle.text_lines.specs.Number.{number_of}
-use Rattle.pair_colours.specs.declared.coloured_pairs.TheConstants.{MOST_COLOUR, MOST_POINTS}
+use Rattle.pair_colours.specs.declared.coloured_pairs.TheConstants.{MOST_COLOUR}
 use Rattle.trace_text.specs.declared.limits.TheConstants.{MOST_STEP_NUMBER}
 use Rattle.trace_text.specs.declared.trace_faults.TraceWord.{TraceWord}
 use Rattle.trace_text.specs.declared.trace_faults.TraceWord.TheVariants.{Head, Points, Stage, Row, Body, End, Extra}
+use Rattle.text_lines.specs.LineNumbers.{between_spaces, are_numbers}
+use Rattle.text_lines.specs.PointsLine.{points_on}
 
 -- what is expected: the first line; then, for a version, the number of points; then, for n points too, the first stage,
 -- a row of a stage or of the closure, after which so many more are to come; a step, a stage or the closure; the last line; nothing
@@ -31,18 +31,6 @@ word_at (at_closure_row n more) = Row
 word_at at_end = End
 word_at at_extra = Extra
 
--- the words of a line between single spaces
-abbrev pub between_spaces : List ℕ → List (List ℕ)
-between_spaces line = slice_split (λ b. b == 32) line
-
--- a word in the number form that is no greater than the limit
-abbrev pub is_number_to : ℕ → List ℕ → Bool
-is_number_to limit word = is_some (number_of word) && nat_le (unwrap_or (number_of word) 0) limit
-
--- so many such numbers
-abbrev pub are_numbers : ℕ → ℕ → List (List ℕ) → Bool
-are_numbers limit n words = (length words == n) && list_all (is_number_to limit) words
-
 -- a row of n raw colours
 abbrev pub is_row_line : ℕ → List ℕ → Bool
 is_row_line n line = are_numbers MOST_COLOUR n (between_spaces line)
@@ -61,13 +49,6 @@ is_step_line version line =
 -- `trace` and a version
 abbrev pub version_on : List ℕ → Option ℕ
 version_on line = if bytes_eq line (codes "trace 1") then Some 1 else (if bytes_eq line (codes "trace 2") then Some 2 else None)
-
--- `points` and a number of points
-abbrev pub points_on : List ℕ → Option ℕ
-points_on line =
-    if starts_with nat_eq line (codes "points ") && is_some (number_of (drop 7 line))
-    && nat_le 1 (unwrap_or (number_of (drop 7 line)) 0) && nat_le (unwrap_or (number_of (drop 7 line)) 0) MOST_POINTS
-    then number_of (drop 7 line) else None
 
 -- what is expected where so many rows of a stage are to come
 abbrev pub next_row : ℕ → ℕ → ℕ → Place

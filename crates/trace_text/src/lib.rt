@@ -33,6 +33,3 @@ pub use stage_list::{Chain, Claim, Stage};
 pub use step_list::{Step, Steps};
 pub use trace_faults::{TraceFault, TraceWord};
 pub use writer::write_trace;
-
-#[cfg(test)]
-mod tests;

@@ -1,49 +1,17 @@
 //! The numbers on a line.
 
 ghost use Rattle.std.specs.Prelude.{◌≡◌, ℕ, ◌+◌, ◌*◌, ◌<◌, ◌≤◌, ◌==◌, ◌++◌, ◌∷◌, [], Some, true, false, MatchOption, length, map, take, unwrap_or};
-ghost use Rattle.std.specs.List.{position_or_len};
 ghost use Rattle.text_lines.specs.Number.{number_of};
 ghost use Rattle.pair_colours.specs.Colouring.{IsColouring};
-ghost use Rattle.trace_text.specs.TraceFault.{are_numbers, between_spaces, is_number_to, is_row_line, is_step_line};
+ghost use Rattle.trace_text.specs.TraceFault.{is_row_line, is_step_line};
 ghost use Rattle.trace_text.specs.TraceText.{step_line};
 ghost use Rattle.trace_text.specs.ClaimTexts.{IsTraceStep};
-ghost use Rattle.trace_text.specs.Reading.{numbers_on, words_left};
+ghost use Rattle.text_lines.specs.LineNumbers.{are_numbers, between_spaces, is_number_to, numbers_on, words_left};
 
 use crate::limits::MOST_STEP_NUMBER;
 use crate::step_list::Step;
 use pair_colours::{Colouring, MOST_COLOUR};
-use text_lines::read_number;
-
-// The number that a word is, if it is no greater than the limit.
-fn number_to(word: &[u8], limit: u32) -> Option<u32>
-    ensures { MatchOption result (is_number_to limit word.now ≡ false)
-        (λ n. (is_number_to limit word.now ≡ true) × (number_of word.now ≡ Some n)) }
-{
-    match read_number(word) {
-        Some(number) if number <= limit => Some(number),
-        _ => None,
-    }
-}
-
-// The bytes before the first space, and those after it, if there is one.
-fn cut_word(line: &[u8]) -> (&[u8], Option<&[u8]>)
-    ensures { between_spaces line.now ≡ result.0.now ∷ words_left result.1 }
-{
-    let end = word_len(line);
-    let (word, rest) = line.split_at(end);
-    match rest {
-        [_, after @ ..] => (word, Some(after)),
-        [] => (word, None),
-    }
-}
-
-// How many bytes come before the first space.
-fn word_len(line: &[u8]) -> usize
-    ensures len { result ≡ position_or_len (λ b. b == 32) line.now }
-    ensures within { result ≤ length line.now }
-{
-    line.iter().position(|b| *b == b' ').unwrap_or(line.len())
-}
+use text_lines::{cut_word, fill_numbers, number_to};
 
 // Reads row x, if the line is a row. If it is not, some of its colours may have been read.
 pub(crate) fn read_row(colouring: &mut Colouring, x: u32, line: &[u8]) -> bool
@@ -109,20 +77,9 @@ fn step_numbers(rest: Option<&[u8]>, count: u32) -> Option<[u32; 3]>
         × (take count numbers ≡ map (λ word. unwrap_or (number_of word) 0) (words_left rest.entry))) }
 {
     let mut numbers = [0; 3];
-    let mut left = rest;
-    for place in 0..count {
-        let Some(bytes) = left else {
-            return None;
-        };
-        let (word, after) = cut_word(bytes);
-        let Some(number) = number_to(word, MOST_STEP_NUMBER) else {
-            return None;
-        };
-        numbers[place as usize] = number;
-        left = after;
-    }
-    match left {
-        Some(_more) => None,
-        None => Some(numbers),
+    if fill_numbers(rest, MOST_STEP_NUMBER, count, &mut numbers) {
+        Some(numbers)
+    } else {
+        None
     }
 }

@@ -6,10 +6,11 @@ ghost use Rattle.pair_colours.specs.Colouring.{IsRawColouring};
 ghost use Rattle.pair_colours.specs.declared.coloured_pairs.TheConstants.{MOST_POINTS};
 ghost use Rattle.trace_text.specs.declared.trace_faults.TraceWord.TheVariants as words;
 ghost use Rattle.trace_text.specs.TraceFault.{at_body, at_end, at_head, fault_from, next_closure_row, next_row, trace_fault};
-ghost use Rattle.trace_text.specs.TraceText.{matrix_lines, stage_lines, step_line};
+ghost use Rattle.trace_text.specs.TraceText.{stage_lines, step_line};
 ghost use Rattle.trace_text.specs.ClaimTexts.{IsTraceStage, IsTraceStep, IsTraceText};
 ghost use Rattle.trace_text.specs.Versions.{IsVersion};
 ghost use Rattle.trace_text.specs.Reading.{IsFaultOf, rows_fault, after_line, after_place};
+ghost use Rattle.text_lines.specs.Rows.{matrix_lines};
 
 use crate::limits::MOST_TRACE;
 use crate::line_numbers::{read_row, read_step};

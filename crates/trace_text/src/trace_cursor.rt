@@ -1,35 +1,31 @@
 //! The lines of a trace that are left to read.
 
 ghost use Rattle.std.specs.Prelude.{◌≡◌, ◌+◌, ◌<◌, ◌≤◌, ◌^◌, ◌∷◌, ◌++◌, [], false, map, length, IfOk, IfErr, OnOk, bytes_eq, codes, decimal, is_some};
+ghost use Rattle.pair_colours.specs.declared.coloured_pairs.TheConstants.{MOST_POINTS};
 ghost use Rattle.text_lines.specs.Lines.{lines_of};
 ghost use Rattle.trace_text.specs.declared.trace_faults.TraceFault.TheVariants as faults;
 ghost use Rattle.trace_text.specs.declared.trace_faults.TraceWord.TheVariants as words;
-ghost use Rattle.trace_text.specs.TraceFault.{points_on, version_on};
+ghost use Rattle.trace_text.specs.TraceFault.{version_on};
 ghost use Rattle.trace_text.specs.Versions.{IsVersion};
-ghost use Rattle.trace_text.specs.Reading.{first_passes};
+ghost use Rattle.text_lines.specs.PointsLine.{points_on};
+ghost use Rattle.text_lines.specs.LineCursor.{first_passes};
 
 use crate::trace_faults::{TraceFault, TraceWord};
-use pair_colours::MOST_POINTS;
 use std::marker::Model;
-use text_lines::{TextLines, lines, read_number};
+use text_lines::{LineCursor, read_points};
 
 // The lines that are left to read.
 #[derive(Drop)]
 pub(crate) struct TraceCursor<'a> {
-    // The number of the next line, counted from 1.
-    line: u32,
-    left: TextLines<'a>,
+    left: LineCursor<'a>,
 }
 
 impl<'a> Model for TraceCursor<'a> {
-    ghost use Rattle.std.specs.Prelude.{◌+◌, ◌<◌, ◌^◌, length, map};
-    ghost use Rattle.trace_text.specs.Reading.{Cursor};
+    ghost use Rattle.text_lines.specs.LineCursor.{Cursor};
 
     ghost Value = { Cursor };
 
-    ghost view = { λ cursor. record { line = cursor.line; lines = map (λ part. part.bytes) cursor.left } };
-
-    ghost invariant = { λ cursor. cursor.line + length (map (λ part. part.bytes) cursor.left) < 2 ^ 32 };
+    ghost view = { λ cursor. cursor.left };
 }
 
 impl<'a> TraceCursor<'a> {
@@ -39,8 +35,7 @@ impl<'a> TraceCursor<'a> {
         ensures { result ≡ record { line = 1; lines = map (λ part. part.bytes) (lines_of text.now) } }
     {
         TraceCursor {
-            line: 1,
-            left: lines(text),
+            left: LineCursor::new(text),
         }
     }
 
@@ -49,7 +44,7 @@ impl<'a> TraceCursor<'a> {
         ensures line { result ≡ self.now.line }
         ensures within { result + length self.now.lines < 2 ^ 32 }
     {
-        self.line
+        self.left.line()
     }
 
     // Takes the next line. If there is none, this was expected.
@@ -59,15 +54,10 @@ impl<'a> TraceCursor<'a> {
         ensures none { IfErr result (λ _. self.old.lines ≡ []) }
         ensures fault { IfErr result (λ fault. fault ≡ faults.Text self.old.line what) }
     {
-        match self.left.next() {
-            Some(part) => {
-                self.line += 1;
-                Ok(part.bytes)
-            }
-            None => Err(TraceFault::Text {
-                line: self.line,
-                what,
-            }),
+        let line = self.left.line();
+        match self.left.take() {
+            Some(bytes) => Ok(bytes),
+            None => Err(TraceFault::Text { line, what }),
         }
     }
 
@@ -78,7 +68,7 @@ impl<'a> TraceCursor<'a> {
         ensures other { IfErr result (λ _. first_passes (λ line. bytes_eq line text.now) self.old.lines ≡ false) }
         ensures fault { IfErr result (λ fault. fault ≡ faults.Text self.old.line what) }
     {
-        let line = self.line;
+        let line = self.line();
         let bytes = self.take(what)?;
         if bytes != text {
             return Err(TraceFault::Text { line, what });
@@ -94,7 +84,7 @@ impl<'a> TraceCursor<'a> {
         ensures other { IfErr result (λ _. first_passes (λ line. is_some (version_on line)) self.old.lines ≡ false) }
         ensures fault { IfErr result (λ fault. fault ≡ faults.Text self.old.line words.Head) }
     {
-        let line = self.line;
+        let line = self.line();
         let bytes = self.take(TraceWord::Head)?;
         match version_in(bytes) {
             Some(version) => Ok(version),
@@ -114,9 +104,9 @@ impl<'a> TraceCursor<'a> {
         ensures other { IfErr result (λ _. first_passes (λ line. is_some (points_on line)) self.old.lines ≡ false) }
         ensures fault { IfErr result (λ fault. fault ≡ faults.Text self.old.line words.Points) }
     {
-        let line = self.line;
+        let line = self.line();
         let bytes = self.take(TraceWord::Points)?;
-        match points_in(bytes) {
+        match read_points(bytes) {
             Some(points) => Ok(points),
             None => Err(TraceFault::Text {
                 line,
@@ -131,9 +121,10 @@ impl<'a> TraceCursor<'a> {
         ensures some { IfErr result (λ _. 0 < length self.old.lines) }
         ensures fault { IfErr result (λ fault. fault ≡ faults.Text self.old.line words.Extra) }
     {
-        match self.left.next() {
+        let line = self.left.line();
+        match self.left.take() {
             Some(_) => Err(TraceFault::Text {
-                line: self.line,
+                line,
                 what: TraceWord::Extra,
             }),
             None => Ok(()),
@@ -152,16 +143,4 @@ fn version_in(line: &[u8]) -> Option<u32>
         return Some(2);
     }
     None
-}
-
-// The number of points that a line tells, if it does.
-fn points_in(line: &[u8]) -> Option<u32>
-    ensures { result ≡ points_on line.now }
-{
-    let word = line.strip_prefix(b"points ".as_slice())?;
-    let points = read_number(word)?;
-    if points == 0 || points > MOST_POINTS {
-        return None;
-    }
-    Some(points)
 }

@@ -1,14 +1,14 @@
 //! The writer of traces.
 
 ghost use Rattle.std.specs.Prelude.{◌≡◌, ◌++◌, ◌∷◌, [], IfOk, OnOk};
-ghost use Rattle.trace_text.specs.TraceText.{lines_text, stage_lines, step_line, trace_text};
+ghost use Rattle.trace_text.specs.TraceText.{stage_lines, step_line, trace_text};
+ghost use Rattle.text_lines.specs.LinesText.{lines_text};
 
 use crate::stage_list::Stage;
 use crate::step_list::Step;
 use pair_colours::{Colouring, NoMemory};
-use relation_text::put_rows;
 use std::alloc::{AllocError, Global};
-use text_lines::Text;
+use text_lines::{Text, put_rows};
 
 /// The text of the trace of a version with these stages that claims this closure. It is read back as
 /// that claim where the version is 1 or 2 and has the steps, there is a stage, all have the points of

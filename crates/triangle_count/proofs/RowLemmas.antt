@@ -1,27 +1,18 @@
 -- The entries of the codes over all points are the triangle numbers.
-use Rattle.std.proofs.Common.{◌≡◌, ◌==◌, ◌&&◌, ℕ, ◌+◌, ◌*◌, ◌^◌, ◌<◌, ◌≤◌, Bool, List, get_or, count_by, Any, inl, inr, ⊎_elim, ap, subst, ◌∙◌, arith}
+use Rattle.std.proofs.Common.{◌≡◌, ◌==◌, ◌&&◌, ℕ, ◌+◌, ◌*◌, ◌^◌, ◌<◌, ◌≤◌, List, get_or, count_by, Any, inl, inr, ⊎_elim, subst, ◌∙◌, arith}
 use Rattle.std.specs.List.Sorted.{IsPermutation}
 use Rattle.std.proofs.lemmas.Bool.{cases_lt}
 use Rattle.std.proofs.lemmas.Bool.Decides.{Decides-eqb, Decides-and, Decides-like, same_from_decides}
 use Rattle.std.proofs.lemmas.Nat.{same_from_place}
-use Rattle.std.proofs.lemmas.List.FromFn.{length-range_with_len, get_or-map-range_with_len}
-use Rattle.std.proofs.lemmas.List.Sums.{sum_by_push, count_by-le-length}
+use Rattle.std.proofs.lemmas.List.FromFn.{get_or-map-range_with_len}
 use Rattle.std.proofs.lemmas.List.Sorted.{IsPermutation-sym, sum_by-IsPermutation, All-permutation}
 use Rattle.pair_colours.specs.Colouring.{PairColouring, FitsColouring, colour_at, points, triangles}
 use Rattle.pair_colours.specs.SideCodes.{side_code, side_codes}
-use Rattle.pair_colours.proofs.Counts.{triangle_point, count_by-map, count_by_points, points_more, unit_of}
+use Rattle.pair_colours.proofs.Counts.{triangle_point, count_by-map, count_by_points, unit_of}
 use Rattle.pair_colours.proofs.SideCodes.{colour_small, length-side_codes}
 use Rattle.triangle_count.specs.declared.rows.Entry.{Entry}
 use Rattle.triangle_count.specs.Row.{Precedes, IsRowAt}
 use Rattle.triangle_count.specs.Runs.{code_of, IsTally}
-
--- a step of a count over the points
-pub count_more : (p : ℕ → Bool) (z count new : ℕ) → count ≡ count_by p (points z) → new ≡ count + unit_of (p z) → new ≡ count_by p (points (z + 1))
-count_more p z count new h e = omega (arith, h, e, ap (count_by p) (points_more z), sum_by_push (λ w. unit_of (p w)) (points z) z)
-
--- a row has no more entries than there are points
-pub count_short : (p : ℕ → Bool) (z : ℕ) → count_by p (points z) ≤ z
-count_short p z = omega (arith, count_by-le-length p (points z), length-range_with_len 0 z)
 
 -- the tally of all codes, in any order, is the row
 pub IsRowAt-from_tally : (C : PairColouring) (x y : ℕ) (codes : List ℕ) (entries : List Entry) → FitsColouring C → x < C.size → y < C.size

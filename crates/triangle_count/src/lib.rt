@@ -17,6 +17,3 @@ mod triangles;
 pub use cache::Cache;
 pub use rows::{Entry, Row};
 pub use triangles::{count, row_at};
-
-#[cfg(test)]
-mod tests;

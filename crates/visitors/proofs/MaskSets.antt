@@ -11,7 +11,7 @@ use Rattle.pair_colours.specs.Colouring.{points}
 use Rattle.pair_colours.specs.ColourSets.{is_in}
 use Rattle.pair_colours.specs.Subsets.{subsets}
 use Rattle.pair_colours.proofs.Counts.{points_more}
-use Rattle.pair_colours.proofs.ListLemmas.{map-map, map_agree, Each-points, Each-weaker}
+use Rattle.pair_colours.proofs.ListLemmas.{map-map, map_agree, Each-points, Each-weaker, filter_points_agree}
 use Rattle.pair_colours.proofs.SortedLists.{In, In-points, In-points_from}
 use Rattle.pair_colours.proofs.SubsetLemmas.{In-filter, In-filter_from, Decides-is_in, points_add}
 use Rattle.visitors.specs.Entries.{IsEntry}
@@ -26,18 +26,6 @@ filter_yes p n e = filter_more p n ∙ ap (λ b. filter p (points n) ++ cond b (
 
 pub filter_no : (p : ℕ → Bool) (n : ℕ) → p n ≡ false → filter p (points (n + 1)) ≡ filter p (points n)
 filter_no p n e = filter_more p n ∙ ap (λ b. filter p (points n) ++ cond b (n ∷ []) []) e ∙ append-nil (filter p (points n))
-
--- tests that agree below n pass the same numbers
-filter_agree : (p q : ℕ → Bool) (n : ℕ) → ((c : ℕ) → c < n → p c ≡ q c) → filter p (points n) ≡ filter q (points n)
-filter_agree p q zero h = refl
-filter_agree p q (suc n) h =
-    let e : suc n ≡ n + 1 = omega arith in
-    ap (λ k. filter p (points k)) e
-    ∙ filter_more p n
-    ∙ ap (λ l. l ++ cond (p n) (n ∷ []) []) (filter_agree p q n (λ c l. h c (omega (arith, l))))
-    ∙ ap (λ b. filter q (points n) ++ cond b (n ∷ []) []) (h n (omega arith))
-    ∙ sym (filter_more q n)
-    ∙ ap (λ k. filter q (points k)) (sym e)
 
 -- the members of the set of a mask
 pub member_in : (n mask c : ℕ) → c < n → is_member mask c ≡ true → In c (members_of n mask)
@@ -78,7 +66,7 @@ members_top n m l =
     let e : suc n ≡ n + 1 = omega arith in
     ap (λ k. members_of k (2 ^ n + m)) e
     ∙ filter_yes (is_member (2 ^ n + m)) n (top_bit m n l)
-    ∙ ap (λ s. s ++ n ∷ []) (filter_agree (is_member (2 ^ n + m)) (is_member m) n (λ c k. low_bits m n c k))
+    ∙ ap (λ s. s ++ n ∷ []) (filter_points_agree (is_member (2 ^ n + m)) (is_member m) n (λ c k. low_bits m n c k))
 
 -- the sets of the masks are all sets, in the order of their bit numbers
 pub subsets_masks : (n : ℕ) → map (members_of n) (points (2 ^ n)) ≡ subsets n

@@ -1,4 +1,5 @@
 pub mod Entries
 pub mod Lists
 pub mod Masks
+pub mod Limits
 pub mod Packing

@@ -8,6 +8,7 @@
 //! * `masks`: sets of colours as masks.
 //! * `delivering`: `deliver_sets`, which hands a list of sets to a visitor.
 //! * `faults`: `RankFault`, why a list is not delivered.
+//! * `laws`: what holds of the definitions alone.
 //!
 //! The definitions stand in `specs/`: entries, and lists that are delivered whole or in part.
 #![tactic(auto)]
@@ -15,6 +16,7 @@
 mod delivering;
 mod faults;
 mod keep;
+pub mod laws;
 mod masks;
 mod packed;
 mod pieces;

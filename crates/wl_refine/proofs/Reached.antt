@@ -10,11 +10,11 @@ use Rattle.trace_text.specs.Partition.{IsPartition}
 use Rattle.trace_text.specs.Split.{Lead}
 use Rattle.trace_text.specs.Versions.{HasStep}
 use Rattle.trace_text.proofs.Leads.{lead_below}
-use Rattle.trace_text.proofs.Meeting.{meet_below}
 use Rattle.trace_text.proofs.Partitions.{IsPartition-named_of, rank_of-named_of}
-use Rattle.trace_text.proofs.Stages.{IsBetween}
 use Rattle.wl_refine.specs.declared.closing.Closed.{Closed}
 use Rattle.wl_refine.specs.Closed.{IsReached, IsForced}
+use Rattle.trace_text.specs.Ends.{IsBetween}
+use Rattle.pair_colours.proofs.Meets.{meet_below}
 
 -- the naming of a colouring is between it and its closure
 pub IsBetween-named_of : (C : PairColouring) → IsColouring C → IsBetween C (named_of C)

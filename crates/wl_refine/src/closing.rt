@@ -1,9 +1,10 @@
 //! The closure of a colouring, with the steps that lead to it.
 
-ghost use Rattle.std.specs.Prelude.{◌≡◌, IfOk};
-ghost use Rattle.pair_colours.specs.Closure.{IsClosureOf};
+ghost use Rattle.std.specs.Prelude.{◌≡◌, IfOk, OnOk};
+ghost use Rattle.pair_colours.specs.Closure.{Coherent, IsClosureOf};
 ghost use Rattle.pair_colours.specs.Naming.{named_of};
 ghost use Rattle.wl_refine.specs.Closed.{IsForced, IsReached, IsReachedFromMeet};
+ghost use Rattle.wl_refine.specs.Way.{LeadsOn};
 
 use crate::finishing::finish;
 use crate::ways::Way;
@@ -23,18 +24,28 @@ pub struct Closed {
     pub steps: Steps,
 }
 
+// Goes on to a coherent partition, and gives it as a colouring.
+fn end_of(alloc: Global, way: &mut Way) -> Result<Colouring, NoMemory>
+    ensures on { OnOk result (LeadsOn way.old way.new) }
+    ensures coherent { OnOk result (Coherent way.new.cells) }
+    ensures last { IfOk result (λ last. last ≡ way.new.cells) }
+{
+    finish(alloc, way)?;
+    way.cells().colouring(alloc)
+}
+
 // What is reached from a partition.
 fn reached(alloc: Global, start: Cells) -> Result<Closed, NoMemory>
     ensures { IfOk result (IsReached start) }
 {
     let mut way = Way::from(alloc, start);
-    finish(alloc, &mut way)?;
-    let last = way.cells().colouring(alloc)?;
+    let last = end_of(alloc, &mut way)?;
+    let steps = way.into_steps();
     let matrix = last.named(alloc)?;
     Ok(Closed {
         matrix,
         last,
-        steps: way.into_steps(),
+        steps,
     })
 }
 

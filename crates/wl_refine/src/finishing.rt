@@ -9,12 +9,11 @@ use crate::ways::Way;
 use pair_colours::NoMemory;
 use std::alloc::Global;
 
-// Goes on to a coherent partition.
-pub(crate) fn finish(alloc: Global, way: &mut Way) -> Result<(), NoMemory>
+// Goes on to a coherent partition, by a search for steps.
+fn finish_by(alloc: Global, way: &mut Way, search: &mut Search) -> Result<(), NoMemory>
     ensures on { OnOk result (LeadsOn way.old way.new) }
     ensures coherent { OnOk result (Coherent way.new.cells) }
 {
-    let mut search = Search::new(alloc, way.cells())?;
     settle_all(way)?;
     search.sweep(way)?;
     loop {
@@ -26,4 +25,13 @@ pub(crate) fn finish(alloc: Global, way: &mut Way) -> Result<(), NoMemory>
             None => return Ok(()),
         }
     }
+}
+
+// Goes on to a coherent partition.
+pub(crate) fn finish(alloc: Global, way: &mut Way) -> Result<(), NoMemory>
+    ensures on { OnOk result (LeadsOn way.old way.new) }
+    ensures coherent { OnOk result (Coherent way.new.cells) }
+{
+    let mut search = Search::new(alloc, way.cells())?;
+    finish_by(alloc, way, &mut search)
 }

@@ -15,6 +15,3 @@ mod ways;
 
 pub use closing::{Closed, close, close_from};
 pub use round_chains::rounds;
-
-#[cfg(test)]
-mod tests;

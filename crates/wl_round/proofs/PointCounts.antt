@@ -3,21 +3,14 @@ use Rattle.std.proofs.Common.{◌≡◌, ◌≢◌, ◌==◌, ℕ, ◌+◌, ◌*
 use Rattle.std.specs.List.{remove}
 use Rattle.std.proofs.lemmas.Bool.{cases_eq, cases_lt, eq-eqb, eqb-true, ne_eqb}
 use Rattle.std.proofs.lemmas.List.Edits.{length-remove}
-use Rattle.std.proofs.lemmas.List.Sums.{sum_by_push, sum_by-remove, count_by-le-length}
+use Rattle.std.proofs.lemmas.List.Sums.{sum_by_push, sum_by-remove}
 use Rattle.std.proofs.lemmas.List.FromFn.{length-range_with_len, get_or-range_with_len}
 use Rattle.pair_colours.specs.Colouring.{points}
-use Rattle.pair_colours.proofs.Counts.{unit_of, found, points_more, count_by-cons, count_by-map, count_by_points}
+use Rattle.pair_colours.proofs.Counts.{unit_of, found, points_more, count_by-cons, count_by-map, count_by_points, count_more}
 
 pub square_le : (m : ℕ) → 0 < m → m ≤ m * m
 square_le zero l = absurd (omega (arith, l))
 square_le (suc m) l = grind arith
-
--- a step of a count
-pub count_more : (p : ℕ → Bool) (z count new : ℕ) → count ≡ count_by p (points z) → new ≡ count + unit_of (p z) → new ≡ count_by p (points (z + 1))
-count_more p z count new h e = omega (arith, h, e, ap (count_by p) (points_more z), sum_by_push (λ w. unit_of (p w)) (points z) z)
-
-pub count_short : (p : ℕ → Bool) (z : ℕ) → count_by p (points z) ≤ z
-count_short p z = omega (arith, count_by-le-length p (points z), length-range_with_len 0 z)
 
 -- a count with one point more
 pub count_one_more : (p q : ℕ → Bool) (n z0 : ℕ) → z0 < n → ((z : ℕ) → z < n → z ≢ z0 → p z ≡ q z) → p z0 ≡ false → count_by q (points n) ≡ count_by p (points n) + unit_of (q z0)

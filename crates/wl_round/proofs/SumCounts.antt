@@ -4,10 +4,10 @@ use Rattle.std.proofs.lemmas.Bool.{cases_lt, eq-eqb, eqb-true, ne_eqb}
 use Rattle.std.proofs.lemmas.List.{length-map}
 use Rattle.std.proofs.lemmas.List.FromFn.{length-range_with_len}
 use Rattle.pair_colours.specs.Colouring.{points}
-use Rattle.pair_colours.proofs.Counts.{unit_of}
+use Rattle.pair_colours.proofs.Counts.{unit_of, count_more}
 use Rattle.wl_round.specs.CodeCounts.{IsCountOf, sum_at, sum_count}
 use Rattle.wl_round.proofs.OneWrite.{one_write}
-use Rattle.wl_round.proofs.PointCounts.{count_more, counted_point, count_hit, same_counts, count_of_list}
+use Rattle.wl_round.proofs.PointCounts.{counted_point, count_hit, same_counts, count_of_list}
 
 -- how often a sum comes at the places before z
 abbrev pub count_to : List ℕ → List ℕ → ℕ → ℕ → ℕ

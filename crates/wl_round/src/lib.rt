@@ -21,6 +21,3 @@ mod sweeping;
 pub mod transposing;
 
 pub use rounds::round_of;
-
-#[cfg(test)]
-mod tests;

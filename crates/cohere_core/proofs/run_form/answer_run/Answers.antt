@@ -1,40 +1,32 @@
-use Rattle.std.proofs.Common.{length, ◌∙◌, ap, sym, subst, inl, refl}
+use Rattle.std.proofs.Common.{length, ◌∙◌, ap, sym, subst}
 use Rattle.std.specs.Prelude.{All}
-use Rattle.cohere_core.specs.declared.status.Status.{Status}
 use Rattle.scheme_io.specs.Count.{Rose}
 use Rattle.pair_colours.specs.Colouring.{IsRawColouring}
 use Rattle.script_text.specs.Script.{product_count}
 use Rattle.cohere_inputs.specs.Asked.{asked_run}
-use Rattle.cohere_inputs.specs.Task.{Run}
 use Rattle.cohere_inputs.specs.Said.{AddsLine}
-use Rattle.cohere_core.specs.Output.{AddsScript, AddsScriptFront}
-use Rattle.cohere_core.specs.Run.{OutputAfter, ErrorLineAfter, IsStatusWithoutFaults}
-use Rattle.cohere_core.proofs.Halted.{halted_line}
-use Rattle.cohere_core.proofs.RunOutputs.{halted_output, halted_completely, over_read, whole_written, part_written, front_written, written_completely}
+use Rattle.cohere_inputs.specs.Task.{Run}
+use Rattle.cohere_core.specs.declared.status.Status.{Status}
+use Rattle.cohere_core.specs.declared.status.Status.TheVariants.{Done}
+use Rattle.cohere_core.specs.Added.{AddsText, AddsUntil}
+use Rattle.cohere_core.specs.Ending.{IsEnding}
+use Rattle.cohere_core.specs.Output.{ScriptOutput}
+use Rattle.cohere_core.specs.Run.{LineAfter}
+use Rattle.cohere_core.proofs.Endings.{cut_off, halted, whole}
+use Rattle.cohere_core.proofs.RunOutputs.{over_read, run_front, run_outputs, run_whole}
 use Rattle.cohere_core.proofs.run_form.answer_run.Goals as goal
 
-pub returns-in-Err-clause-output : goal.returns-in-Err-clause-output
-returns-in-Err-clause-output g c =
+pub returns-in-Err-clause-ending : goal.returns-in-Err-clause-ending
+returns-in-Err-clause-ending g c =
     let files = g.S.Store.files c.args.store.now in
+    let run = asked_run c.args.words in
     let written = g.O.Sink.written c.args.out.now in
-    subst (λ (s : Status). OutputAfter (Run (asked_run c.args.words)) s files written written) (sym c.status_of_halt.ensures)
-    (halted_output files (asked_run c.args.words) c.in-Err.why written)
-
-pub returns-in-Err-clause-error_line : goal.returns-in-Err-clause-error_line
-returns-in-Err-clause-error_line g c =
-    let files = g.S.Store.files c.args.store.now in
     let halt = c.in-Err.ensures.halt in
+    let rose = Rose (g.S.Store.faults c.args.store.now) (g.S.Store.faults c.run_inputs.new.store) in
+    let failed = Rose (g.O.Sink.faults c.args.out.now) (g.O.Sink.faults c.args.out.now) in
     let says = AddsLine g.E.Sink.written g.E.Sink.faults c.args.err.now c.run_inputs.new.err in
-    let rose = Rose (g.S.Store.faults c.args.store.now) (g.S.Store.faults c.run_inputs.new.store) in
-    subst (λ (s : Status). ErrorLineAfter (Run (asked_run c.args.words)) s files rose says) (sym c.status_of_halt.ensures)
-    (halted_line files (Run (asked_run c.args.words)) halt.name c.in-Err.why rose says halt.halts halt.line)
-
-pub returns-in-Err-clause-complete : goal.returns-in-Err-clause-complete
-returns-in-Err-clause-complete g c =
-    let files = g.S.Store.files c.args.store.now in
-    let rose = Rose (g.S.Store.faults c.args.store.now) (g.S.Store.faults c.run_inputs.new.store) in
-    λ calm still. subst (λ (s : Status). IsStatusWithoutFaults (Run (asked_run c.args.words)) s files) (sym c.status_of_halt.ensures)
-    (halted_completely files (asked_run c.args.words) c.in-Err.ensures.halt.name c.in-Err.why rose c.in-Err.ensures.halt.halts calm)
+    subst (λ (s : Status). IsEnding files (Run run) s rose failed written written says) (sym c.status_of_halt.ensures)
+    (halted files (Run run) halt.name c.in-Err.why rose failed written says tt (run_outputs run) halt.halts halt.line)
 
 pub answer_script-requires-clause-products : goal.answer_script-requires-clause-products
 answer_script-requires-clause-products g c = record {
@@ -42,33 +34,30 @@ answer_script-requires-clause-products g c = record {
   raw = subst (All IsRawColouring) (sym c.deref-2.ensures.value) c.in-Ok.ensures.products;
 }
 
-pub returns-in-Ok-answer_script-clause-complete : goal.returns-in-Ok-answer_script-clause-complete
-returns-in-Ok-answer_script-clause-complete g c =
-    λ calm still. written_completely (g.S.Store.files c.args.store.now) (asked_run c.args.words) c.in-Ok.inputs.relation c.in-Ok.inputs.lines.items c.in-Ok.inputs.products.items _ c.in-Ok.ensures.read (inl refl)
-
-pub returns-in-Ok-answer_script-clause-output : goal.returns-in-Ok-answer_script-clause-output
-returns-in-Ok-answer_script-clause-output g c =
+pub returns-in-Ok-answer_script-clause-ending : goal.returns-in-Ok-answer_script-clause-ending
+returns-in-Ok-answer_script-clause-ending g c =
+    let files = g.S.Store.files c.args.store.now in
     let inputs = c.in-Ok.inputs in
     let old = g.O.Sink.written c.args.out.now in
     let new = g.O.Sink.written c.answer_script.new.out in
-    let all = over_read (λ products lines. AddsScript inputs.relation products lines old new) inputs.products.items c.deref-2.result.now inputs.lines.items c.deref.result.now
+    let all = over_read (λ products lines. AddsText (ScriptOutput inputs.relation products lines) old new) inputs.products.items c.deref-2.result.now inputs.lines.items c.deref.result.now
     c.deref-2.ensures.value c.deref.ensures.value c.in-Ok-answer_script.ensures.all in
-    whole_written (g.S.Store.files c.args.store.now) (asked_run c.args.words) inputs.relation inputs.lines.items inputs.products.items old new c.in-Ok.ensures.read all
+    whole files (Run (asked_run c.args.words)) Done _ _ old new _ tt tt
+    (run_whole files (asked_run c.args.words) inputs.relation inputs.lines.items inputs.products.items old new c.in-Ok.ensures.read all)
 
-pub returns-in-Err-SinkFailed-clause-output : goal.returns-in-Err-SinkFailed-clause-output
-returns-in-Err-SinkFailed-clause-output g c =
+pub returns-clause-ending : goal.returns-clause-ending
+returns-clause-ending g c =
+    let files = g.S.Store.files c.args.store.now in
+    let run = asked_run c.args.words in
     let inputs = c.in-Ok.inputs in
+    let fault = c.in-Err-answer_script.fault in
     let old = g.O.Sink.written c.args.out.now in
     let new = g.O.Sink.written c.answer_script.new.out in
-    let front = over_read (λ products lines. AddsScriptFront inputs.relation products lines old new) inputs.products.items c.deref-2.result.now inputs.lines.items c.deref.result.now
-    c.deref-2.ensures.value c.deref.ensures.value c.in-Err-SinkFailed.ensures.front in
-    part_written (g.S.Store.files c.args.store.now) (asked_run c.args.words) inputs.relation inputs.lines.items inputs.products.items old new c.in-Ok.ensures.read front
-
-pub returns-clause-output : goal.returns-clause-output
-returns-clause-output g c =
-    let inputs = c.in-Ok.inputs in
-    let old = g.O.Sink.written c.args.out.now in
-    let new = g.O.Sink.written c.answer_script.new.out in
-    let front = over_read (λ products lines. AddsScriptFront inputs.relation products lines old new) inputs.products.items c.deref-2.result.now inputs.lines.items c.deref.result.now
-    c.deref-2.ensures.value c.deref.ensures.value c.in-Err-NoMemory.ensures.front in
-    front_written (g.S.Store.files c.args.store.now) (asked_run c.args.words) inputs.relation inputs.lines.items inputs.products.items old new c.in-Ok.ensures.read front
+    let rose = Rose (g.S.Store.faults c.args.store.now) (g.S.Store.faults c.run_inputs.new.store) in
+    let failed = Rose (g.O.Sink.faults c.args.out.now) (g.O.Sink.faults c.answer_script.new.out) in
+    let says = AddsLine g.E.Sink.written g.E.Sink.faults c.args.err.now c.status_of_fault.new.err in
+    let front = over_read (λ products lines. AddsUntil fault (ScriptOutput inputs.relation products lines) old new) inputs.products.items c.deref-2.result.now inputs.lines.items c.deref.result.now
+    c.deref-2.ensures.value c.deref.ensures.value c.in-Err-answer_script.ensures.front in
+    subst (λ (s : Status). IsEnding files (Run run) s rose failed old new says) (sym c.status_of_fault.ensures.status)
+    (cut_off files (Run run) fault rose failed old new says (run_front files run inputs.relation inputs.lines.items inputs.products.items fault old new c.in-Ok.ensures.read front) c.in-Err-answer_script.ensures.failed
+    (subst (λ (s : Status). LineAfter s says) c.status_of_fault.ensures.status c.status_of_fault.ensures.line))

@@ -27,5 +27,5 @@ pub returns-clause-round : goal.returns-clause-round
 returns-clause-round c =
     let K = c.args.k.now in
     let end : c.loop-class.class ≡ rank_of K = omega (arith, c.rank-class-end.ensures.value) in
-    IsRound-numbered_classes K c.rank-class-end.ensures.configuration c.args.a.now c.requires c.loop-class.seen.keys c.loop-class.next.items
+    IsRound-numbered_classes K c.rank-class-end.ensures.fits c.rank-class-end.ensures.configuration c.args.a.now c.requires c.loop-class.seen.keys c.loop-class.next.items
     (subst (IsNumberedTo is_key (class_signature K c.args.a.now) c.loop-class.seen.keys c.loop-class.next.items) end c.loop-class.invariant)

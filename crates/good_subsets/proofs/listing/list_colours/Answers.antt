@@ -1,4 +1,4 @@
-use Rattle.std.proofs.Common.{◌≡◌, ◌++◌, ◌∷◌, [], sym, ap, ◌∙◌}
+use Rattle.std.proofs.Common.{◌++◌, ◌∷◌, [], sym, ap, ◌∙◌}
 use Rattle.visitors.specs.Masks.{is_member}
 use Rattle.visitors.proofs.MaskSets.{filter_yes, filter_no}
 use Rattle.good_subsets.proofs.listing.list_colours.Goals as goal

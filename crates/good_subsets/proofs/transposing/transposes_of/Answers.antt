@@ -1,4 +1,4 @@
-use Rattle.std.proofs.Common.{◌≡◌, ℕ, ◌+◌, ◌<◌, Bool, sym, ap, subst, ◌∙◌, arith}
+use Rattle.std.proofs.Common.{◌≡◌, ℕ, ◌+◌, Bool, sym, ap, subst, ◌∙◌, arith}
 use Rattle.pair_colours.specs.Naming.{rank_of}
 use Rattle.colour_wl.specs.BlockSums.{transposed}
 use Rattle.colour_wl.proofs.Classes.{pair_of_class-holds}

@@ -134,3 +134,12 @@ returns-clause-more t c = λ _.
 
 pub returns-in_err-extensions-clause-front : goal.returns-in_err-extensions-clause-front
 returns-in_err-extensions-clause-front t c = front_none (Fuses c.args.k.now) (fuses_or_not c.args.k.now c.requires.configuration) _ c.args.met.now
+
+pub overflow_add-above : goal.overflow_add-above
+overflow_add-above t c = omega (arith, c.requires.next, next_small (length c.args.string.now.items) c.args.string.now.items c.requires.growth, c.requires.long, c.requires.small)
+
+pub extensions-requires-clause-growth : goal.extensions-requires-clause-growth
+extensions-requires-clause-growth t c = subst (λ l. IsGrowth (length l) l) (sym c.deref-2.ensures.value) c.requires.growth
+
+pub extensions-requires-clause-prefix : goal.extensions-requires-clause-prefix
+extensions-requires-clause-prefix t c = omega (arith, ap length c.deref-2.ensures.value, c.requires.long)

@@ -1,11 +1,11 @@
-use Rattle.std.proofs.Common.{◌≡◌, ◌+◌, ◌-◌, ◌≤◌, [], ◌∷◌, ◌++◌, length, take, vec_len, slice_index, refl, sym, ap, subst, ◌∙◌, arith}
+use Rattle.std.proofs.Common.{◌≡◌, suc, ◌+◌, ◌-◌, ◌≤◌, [], ◌∷◌, ◌++◌, length, take, vec_len, slice_index, refl, sym, ap, subst, ◌∙◌, arith}
 use Rattle.std.specs.List.{range_with_len}
 use Rattle.std.proofs.lemmas.List.{length_push, take_at}
 use Rattle.pair_colours.specs.Naming.{rank_of}
 use Rattle.mergings.specs.Cuts.{IsDelivered, IsDeliveredWhole}
 use Rattle.colour_wl.specs.Fusions.{Fuses}
-use Rattle.colour_wl.specs.GrowthStrings.{next_number, growth_from}
-use Rattle.colour_wl.proofs.Growth.{IsGrowth-take}
+use Rattle.colour_wl.specs.GrowthStrings.{IsGrowth, next_number, growth_from}
+use Rattle.colour_wl.proofs.Growth.{IsGrowth-push, IsGrowth-take}
 use Rattle.mergings.proofs.Deliveries.{fuses_or_not, branch, front_none, front_from_whole, next_small}
 use Rattle.mergings.proofs.Resuming.{over, later_init, later_more, later_stop, later_front, above_more}
 use Rattle.mergings.proofs.delivering.deliver_later.Goals as goal
@@ -24,7 +24,7 @@ pub overflow_add-number-end : goal.overflow_add-number-end
 overflow_add-number-end c =
     let a = c.args.after.now in
     let d = c.args.depth in
-    omega (arith, c.next_of-next.ensures, ap next_number (c.deref.ensures.value ∙ c.in_ok-string.ensures.items), next_small d (take d a) (IsGrowth-take (rank_of c.args.k.now) d a c.requires.growth (omega (arith, c.requires.depth))), c.requires.depth, c.rank-first.ensures.value, c.rank-first.type_inv)
+    omega (arith, c.next_of-next.ensures.next, ap next_number (c.deref.ensures.value ∙ c.in_ok-string.ensures.items), next_small d (take d a) (IsGrowth-take (rank_of c.args.k.now) d a c.requires.growth (omega (arith, c.requires.depth))), c.requires.depth, c.rank-first.ensures.value, c.rank-first.type_inv)
 
 pub loop-number-init : goal.loop-number-init
 loop-number-init c = record {
@@ -37,7 +37,7 @@ pub returns-in_err-push-clause-front : goal.returns-in_err-push-clause-front
 returns-in_err-push-clause-front c =
     let K = c.args.k.now in
     let u = take c.args.depth c.args.after.now in
-    let next : c.next_of-next.result ≡ next_number u = c.next_of-next.ensures ∙ ap next_number (c.deref.ensures.value ∙ c.in_ok-string.ensures.items) in
+    let next : c.next_of-next.result ≡ next_number u = c.next_of-next.ensures.next ∙ ap next_number (c.deref.ensures.value ∙ c.in_ok-string.ensures.items) in
     later_stop (Fuses K) (rank_of K) u (slice_index c.args.after.now c.args.depth) (next_number u) (fuses_or_not K c.requires.configuration) c.loop-number.number c.args.met.now c.loop-number.met
     c.loop-number.auto.number (omega (arith, c.loop-number-test.true, next)) c.loop-number.invariant.met
 
@@ -45,7 +45,7 @@ pub deliver-requires-clause-next : goal.deliver-requires-clause-next
 deliver-requires-clause-next c =
     let u = take c.args.depth c.args.after.now in
     let v = c.loop-number.number in
-    let next : c.next_of-next.result ≡ next_number u = c.next_of-next.ensures ∙ ap next_number (c.deref.ensures.value ∙ c.in_ok-string.ensures.items) in
+    let next : c.next_of-next.result ≡ next_number u = c.next_of-next.ensures.next ∙ ap next_number (c.deref.ensures.value ∙ c.in_ok-string.ensures.items) in
     let pushed : c.push.new.self.items ≡ u ++ v ∷ [] = c.in_ok-push.ensures.items ∙ ap (λ l. l ++ v ∷ []) c.loop-number.invariant.string in
     let low : v ≤ c.next_of-next.result = omega (arith, c.loop-number-test.true) in
     let above : c.if-number-next.above ≡ next_number (u ++ v ∷ []) =
@@ -60,7 +60,7 @@ returns-in_err-deliver-clause-front c =
     let K = c.args.k.now in
     let u = take c.args.depth c.args.after.now in
     let v = c.loop-number.number in
-    let next : c.next_of-next.result ≡ next_number u = c.next_of-next.ensures ∙ ap next_number (c.deref.ensures.value ∙ c.in_ok-string.ensures.items) in
+    let next : c.next_of-next.result ≡ next_number u = c.next_of-next.ensures.next ∙ ap next_number (c.deref.ensures.value ∙ c.in_ok-string.ensures.items) in
     let pushed : c.push.new.self.items ≡ u ++ v ∷ [] = c.in_ok-push.ensures.items ∙ ap (λ l. l ++ v ∷ []) c.loop-number.invariant.string in
     let front : IsDelivered (Fuses K) (branch (rank_of K) u v) c.loop-number.met c.deliver.new.met = subst (λ l. IsDelivered (Fuses K) (growth_from l (rank_of K - length l)) c.loop-number.met c.deliver.new.met) pushed c.deliver.ensures.front in
     later_front (Fuses K) (rank_of K) u (slice_index c.args.after.now c.args.depth) (next_number u) (fuses_or_not K c.requires.configuration) v c.args.met.now c.loop-number.met c.deliver.new.met
@@ -71,7 +71,7 @@ returns-in-Stop-clause-front c =
     let K = c.args.k.now in
     let u = take c.args.depth c.args.after.now in
     let v = c.loop-number.number in
-    let next : c.next_of-next.result ≡ next_number u = c.next_of-next.ensures ∙ ap next_number (c.deref.ensures.value ∙ c.in_ok-string.ensures.items) in
+    let next : c.next_of-next.result ≡ next_number u = c.next_of-next.ensures.next ∙ ap next_number (c.deref.ensures.value ∙ c.in_ok-string.ensures.items) in
     let pushed : c.push.new.self.items ≡ u ++ v ∷ [] = c.in_ok-push.ensures.items ∙ ap (λ l. l ++ v ∷ []) c.loop-number.invariant.string in
     let front : IsDelivered (Fuses K) (branch (rank_of K) u v) c.loop-number.met c.deliver.new.met = subst (λ l. IsDelivered (Fuses K) (growth_from l (rank_of K - length l)) c.loop-number.met c.deliver.new.met) pushed c.deliver.ensures.front in
     later_front (Fuses K) (rank_of K) u (slice_index c.args.after.now c.args.depth) (next_number u) (fuses_or_not K c.requires.configuration) v c.args.met.now c.loop-number.met c.deliver.new.met
@@ -99,8 +99,71 @@ returns-clause-front c =
     let u = take c.args.depth a in
     let v = slice_index a c.args.depth in
     let own : v ≤ next_number u = c.requires.growth.grows c.args.depth c.requires.depth in
-    let next : c.next_of-next.result ≡ next_number u = c.next_of-next.ensures ∙ ap next_number (c.deref.ensures.value ∙ c.in_ok-string.ensures.items) in
+    let next : c.next_of-next.result ≡ next_number u = c.next_of-next.ensures.next ∙ ap next_number (c.deref.ensures.value ∙ c.in_ok-string.ensures.items) in
     let most : c.loop-number.number ≤ c.next_of-next.result + 1 = c.loop-number.auto.number-end (omega (arith, own, next)) in
     let count : c.loop-number.number - (v + 1) ≡ next_number u - v = omega (arith, most, c.loop-number-test.false, next, own) in
     front_from_whole (Fuses K) _ c.args.met.now c.loop-number.met
     (subst (λ n. IsDeliveredWhole (Fuses K) (over (rank_of K) u (range_with_len (v + 1) n)) c.args.met.now c.loop-number.met) count c.loop-number.invariant.met)
+
+pub next_of-next-requires-clause-growth : goal.next_of-next-requires-clause-growth
+next_of-next-requires-clause-growth c =
+    let d = c.args.depth in
+    let a = c.args.after.now in
+    let u = take d a in
+    let is : c.deref.result.now ≡ u = c.deref.ensures.value ∙ c.in_ok-string.ensures.items in
+    let growth = IsGrowth-take (rank_of c.args.k.now) d a c.requires.growth (omega (arith, c.requires.depth)) in
+    subst (λ l. IsGrowth (length l) l) (sym is) (subst (λ m. IsGrowth m u) (sym growth.len) growth)
+
+pub next_of-next-requires-clause-short : goal.next_of-next-requires-clause-short
+next_of-next-requires-clause-short c =
+    let d = c.args.depth in
+    let a = c.args.after.now in
+    let u = take d a in
+    let is : c.deref.result.now ≡ u = c.deref.ensures.value ∙ c.in_ok-string.ensures.items in
+    let growth = IsGrowth-take (rank_of c.args.k.now) d a c.requires.growth (omega (arith, c.requires.depth)) in
+    omega (arith, ap length is, growth.len, c.requires.depth, c.requires.small)
+
+pub overflow_add-above : goal.overflow_add-above
+overflow_add-above c =
+    let d = c.args.depth in
+    let a = c.args.after.now in
+    let u = take d a in
+    let is : c.deref.result.now ≡ u = c.deref.ensures.value ∙ c.in_ok-string.ensures.items in
+    let growth = IsGrowth-take (rank_of c.args.k.now) d a c.requires.growth (omega (arith, c.requires.depth)) in
+    omega (arith, c.next_of-next.ensures.next, ap next_number is, next_small d u growth, c.requires.depth, c.requires.small)
+
+pub deliver-requires-clause-growth : goal.deliver-requires-clause-growth
+deliver-requires-clause-growth c =
+    let d = c.args.depth in
+    let a = c.args.after.now in
+    let u = take d a in
+    let is : c.deref.result.now ≡ u = c.deref.ensures.value ∙ c.in_ok-string.ensures.items in
+    let growth = IsGrowth-take (rank_of c.args.k.now) d a c.requires.growth (omega (arith, c.requires.depth)) in
+    let v = c.loop-number.number in
+    let pushed : c.push.new.self.items ≡ u ++ v ∷ [] = c.in_ok-push.ensures.items ∙ ap (λ l. l ++ v ∷ []) c.loop-number.invariant.string in
+    let small : v ≤ next_number u = omega (arith, c.loop-number-test.true, c.next_of-next.ensures.next, ap next_number is) in
+    let len : suc d ≡ length (u ++ v ∷ []) = omega (arith, length_push u v, growth.len) in
+    subst (λ l. IsGrowth (length l) l) (sym pushed) (subst (λ m. IsGrowth m (u ++ v ∷ [])) len (IsGrowth-push d u v growth small))
+
+pub deliver-requires-clause-long : goal.deliver-requires-clause-long
+deliver-requires-clause-long c =
+    let d = c.args.depth in
+    let a = c.args.after.now in
+    let u = take d a in
+    let is : c.deref.result.now ≡ u = c.deref.ensures.value ∙ c.in_ok-string.ensures.items in
+    let growth = IsGrowth-take (rank_of c.args.k.now) d a c.requires.growth (omega (arith, c.requires.depth)) in
+    let v = c.loop-number.number in
+    let pushed : c.push.new.self.items ≡ u ++ v ∷ [] = c.in_ok-push.ensures.items ∙ ap (λ l. l ++ v ∷ []) c.loop-number.invariant.string in
+    omega (arith, ap length pushed, length_push u v, growth.len, c.requires.depth)
+
+pub returns-clause-more : goal.returns-clause-more
+returns-clause-more c = λ _.
+    let K = c.args.k.now in
+    let a = c.args.after.now in
+    let u = take c.args.depth a in
+    let v = slice_index a c.args.depth in
+    let own : v ≤ next_number u = c.requires.growth.grows c.args.depth c.requires.depth in
+    let next : c.next_of-next.result ≡ next_number u = c.next_of-next.ensures.next ∙ ap next_number (c.deref.ensures.value ∙ c.in_ok-string.ensures.items) in
+    let most : c.loop-number.number ≤ c.next_of-next.result + 1 = c.loop-number.auto.number-end (omega (arith, own, next)) in
+    let count : c.loop-number.number - (v + 1) ≡ next_number u - v = omega (arith, most, c.loop-number-test.false, next, own) in
+    subst (λ n. IsDeliveredWhole (Fuses K) (over (rank_of K) u (range_with_len (v + 1) n)) c.args.met.now c.loop-number.met) count c.loop-number.invariant.met

@@ -1,8 +1,8 @@
-use Rattle.std.proofs.Common.{◌≡◌, ◌-◌, ◌<◌, ℕ, List, [], length, arith, subst}
+use Rattle.std.proofs.Common.{◌≡◌, ◌-◌, ℕ, [], length, arith, subst}
 use Rattle.pair_colours.specs.Naming.{rank_of}
 use Rattle.colour_wl.specs.Fusions.{Fuses}
 use Rattle.colour_wl.specs.GrowthStrings.{growth_from, growth_strings}
-use Rattle.visitors.specs.declared.visitor.Next.TheVariants.{More, Stop}
+use Rattle.visitors.specs.declared.visitor.Next.TheVariants.{More}
 use Rattle.mergings.specs.Cuts.{IsDelivered, IsDeliveredWhole}
 use Rattle.mergings.proofs.Deliveries.{cut_either}
 use Rattle.mergings.proofs.delivering.first_fusions.Goals as goal

@@ -1,6 +1,6 @@
-use Rattle.std.proofs.Common.{◌≡◌, ℕ, suc, ◌+◌, ◌-◌, ◌<◌, [], length, take, sym, subst, arith}
+use Rattle.std.proofs.Common.{◌≡◌, ℕ, suc, ◌+◌, ◌-◌, ◌<◌, [], length, take, subst, arith}
 use Rattle.pair_colours.specs.Naming.{rank_of}
-use Rattle.mergings.specs.Cuts.{IsDelivered, IsDeliveredWhole}
+use Rattle.mergings.specs.Cuts.{IsDeliveredWhole}
 use Rattle.colour_wl.specs.Fusions.{FusesAfter}
 use Rattle.colour_wl.specs.GrowthStrings.{growth_from, growth_strings}
 use Rattle.mergings.proofs.Deliveries.{fuses_or_not, cut_stop}

@@ -1,4 +1,4 @@
-use Rattle.std.proofs.Common.{◌≡◌, ℕ, ◌<◌, [], length, map, get_or, vec_items}
+use Rattle.std.proofs.Common.{map, vec_items}
 use Rattle.mergings.specs.Leasts.{AreByLeastBefore}
 use Rattle.mergings.proofs.goods.by_least.Given as goal
 

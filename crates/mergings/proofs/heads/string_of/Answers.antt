@@ -1,4 +1,4 @@
-use Rattle.std.proofs.Common.{◌≡◌, ◌+◌, ◌<◌, ◌≤◌, suc, [], ◌∷◌, ◌++◌, length, slice_index, refl, sym, ap, subst, ◌∙◌, arith}
+use Rattle.std.proofs.Common.{◌≡◌, ◌+◌, ◌<◌, ◌≤◌, suc, [], ◌∷◌, ◌++◌, length, slice_index, sym, ap, subst, ◌∙◌, arith}
 use Rattle.colour_wl.specs.GrowthStrings.{next_number, IsGrowth}
 use Rattle.colour_wl.proofs.Growth.{next_number-push, IsGrowth-nil, IsGrowth-push}
 use Rattle.mergings.specs.Searches.{IsOfHeads}

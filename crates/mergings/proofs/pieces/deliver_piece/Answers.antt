@@ -1,5 +1,5 @@
-use Rattle.std.proofs.Common.{◌≡◌, ◌+◌, ◌-◌, ◌<◌, [], length, length-append, map, get_or, vec_items, All, sym, ap, subst, ◌∙◌, arith}
-use Rattle.std.proofs.lemmas.List.{get_or-map, length-map}
+use Rattle.std.proofs.Common.{◌-◌, length, length-append, map, vec_items, All, sym, ap, subst, ◌∙◌, arith}
+use Rattle.std.proofs.lemmas.List.{length-map}
 use Rattle.visitors.specs.Entries.{IsEntry}
 use Rattle.mergings.specs.Cuts.{IsListCut}
 use Rattle.mergings.specs.Mergings.{IsMergings}

@@ -1,6 +1,5 @@
-use Rattle.std.proofs.Common.{◌≡◌, ◌<◌, IfSome, refl, sym, subst, ◌∙◌, arith}
-use Rattle.mergings.specs.Mergings.{IsMergings, IsResumed}
-use Rattle.mergings.proofs.ListParts.{IsMidway, midway_start, midway_front, midway_all, midway_more}
+use Rattle.std.proofs.Common.{refl, sym, subst, arith}
+use Rattle.mergings.proofs.ListParts.{IsMidway, midway_start, midway_front, midway_all}
 use Rattle.mergings.proofs.pieces.deliver_rest.Goals as goal
 
 pub loop-last-init : goal.loop-last-init

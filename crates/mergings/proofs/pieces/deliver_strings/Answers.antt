@@ -1,6 +1,5 @@
-use Rattle.std.proofs.Common.{◌≡◌, ◌+◌, ◌<◌, [], length, map, get_or, vec_items, sym, ap, ◌∙◌, arith}
-use Rattle.std.proofs.lemmas.List.{get_or-map, length-map}
-use Rattle.visitors.specs.declared.visitor.Next.TheVariants.{More, Stop}
+use Rattle.std.proofs.Common.{◌≡◌, ◌+◌, ◌<◌, [], length, map, get_or, vec_items, ◌∙◌, arith}
+use Rattle.std.proofs.lemmas.List.{length-map}
 use Rattle.mergings.proofs.Strings.{listed_more, front_added, room_left}
 use Rattle.mergings.proofs.pieces.deliver_strings.Goals as goal
 

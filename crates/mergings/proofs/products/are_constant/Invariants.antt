@@ -1,5 +1,4 @@
 use Rattle.std.proofs.Common.{ℕ, ◌-◌, ◌<◌, ◌≤◌}
-use Rattle.pair_colours.specs.Naming.{rank_of}
 use Rattle.mergings.specs.Searches.{IsHead, IsConstantFrom}
 use Rattle.mergings.proofs.products.are_constant.Given as goal
 

@@ -1,4 +1,4 @@
-use Rattle.std.proofs.Common.{◌≡◌, ℕ, ◌+◌, ◌*◌, ◌%◌, ◌^◌, ◌<◌, ◌≤◌, sum_by, slice_index, sym, subst, ◌∙◌, arith}
+use Rattle.std.proofs.Common.{◌≡◌, ℕ, ◌+◌, ◌*◌, ◌%◌, ◌^◌, ◌<◌, sum_by, slice_index, sym, subst, ◌∙◌, arith}
 use Rattle.pair_colours.specs.Naming.{rank_of}
 use Rattle.mergings.specs.Searches.{block_at}
 use Rattle.mergings.proofs.Folds.{sums_exact}
@@ -20,7 +20,7 @@ returns c =
     let sums = c.add_right.new.sums in
     let r = subst (λ m. (p : ℕ) → p < 256 → slice_index rows p ≡ sum_by (λ i. slice_index table (i * 256 + p)) (block_at m heads x) % 2 ^ 32) c.rank-rank.ensures.value c.add_left.ensures.each in
     let s = subst (λ m. (y k : ℕ) → y < 16 → k < 16 → slice_index sums (y * 16 + k) ≡ sum_by (λ j. slice_index rows (j * 16 + k)) (block_at m heads y) % 2 ^ 32) c.rank-rank.ensures.value c.add_right.ensures.each in
-    let exact = sums_exact K c.rank-rank.ensures.configuration c.requires.small table c.requires.table heads x rows sums r s in
+    let exact = sums_exact K c.rank-rank.ensures.fits c.requires.small table c.requires.table heads x rows sums r s in
     let own : (d : ℕ) → d < c.rank-rank.result → d < rank_of K = λ d l. omega (arith, l, c.rank-rank.ensures.value) in
     let told : (d : ℕ) → d < rank_of K → d < c.rank-rank.result = λ d l. omega (arith, l, c.rank-rank.ensures.value) in
     let below : (d : ℕ) → d < rank_of K → slice_index heads d < rank_of K = λ d l. omega (arith, l, c.requires.heads.low d l) in (

@@ -1,9 +1,9 @@
-use Rattle.std.proofs.Common.{◌≡◌, ◌+◌, ◌-◌, ◌^◌, ◌<◌, ◌≤◌, [], length, map, get_or, vec_items, slice_index, true, refl, sym, ap, subst, ◌∙◌, arith, ⊎_elim}
+use Rattle.std.proofs.Common.{◌≡◌, ◌+◌, ◌^◌, ◌<◌, ◌≤◌, length, map, vec_items, slice_index, true, refl, sym, ap, subst, arith, ⊎_elim}
 use Rattle.std.proofs.lemmas.Bool.{cases_lt}
 use Rattle.std.proofs.lemmas.List.{length-map}
 use Rattle.pair_colours.specs.Naming.{rank_of}
 use Rattle.visitors.specs.Masks.{is_member}
-use Rattle.mergings.specs.Searches.{IsExtended, IsLeast, IsSearched}
+use Rattle.mergings.specs.Searches.{IsLeast, IsSearched}
 use Rattle.mergings.proofs.SearchLemmas.{HasTried, searched_none, searched_more, tried_none, tried_yes, tried_no, tried_all}
 use Rattle.mergings.proofs.searching.+search.Goals as goal
 use Rattle.mergings.proofs.searching.+search.Goals.{in-Some+in_ok-search-in-Some+in-More, in-None}

@@ -1,4 +1,4 @@
-use Rattle.std.proofs.Common.{◌≡◌, ◌-◌, length, map, get_or, vec_items, []}
+use Rattle.std.proofs.Common.{◌≡◌, ◌-◌, length, map, vec_items}
 use Rattle.pair_colours.specs.Naming.{rank_of}
 use Rattle.mergings.specs.Searches.{IsSearched}
 use Rattle.mergings.proofs.SearchLemmas.{HasTried}

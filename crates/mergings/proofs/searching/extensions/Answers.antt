@@ -1,4 +1,4 @@
-use Rattle.std.proofs.Common.{◌≡◌, [], map, vec_items, sym, ap, subst, ◌∙◌}
+use Rattle.std.proofs.Common.{[], map, vec_items, ap, subst}
 use Rattle.std.proofs.lemmas.List.Sorted.{IsPermutation-map}
 use Rattle.mergings.specs.Searches.{IsSearched, IsRisingList}
 use Rattle.mergings.proofs.HeadLemmas.{heads_none, constant_none}

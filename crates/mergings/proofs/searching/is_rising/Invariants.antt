@@ -1,4 +1,4 @@
-use Rattle.std.proofs.Common.{◌≡◌, ℕ, ◌+◌, ◌<◌, [], length, map, get_or, vec_items}
+use Rattle.std.proofs.Common.{ℕ, ◌+◌, ◌<◌, [], map, get_or, vec_items}
 use Rattle.colour_wl.specs.GrowthStrings.{IsBefore}
 use Rattle.mergings.proofs.searching.is_rising.Given as goal
 

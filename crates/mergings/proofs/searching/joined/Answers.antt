@@ -1,5 +1,4 @@
-use Rattle.std.proofs.Common.{◌≡◌, ◌<◌, ◌≤◌, sym, subst, ◌∙◌, arith, ⊎_elim}
-use Rattle.std.proofs.lemmas.Bool.{cases_lt}
+use Rattle.std.proofs.Common.{◌<◌, subst, arith}
 use Rattle.pair_colours.specs.Naming.{rank_of}
 use Rattle.mergings.specs.Searches.{IsJoined}
 use Rattle.mergings.proofs.HeadLemmas.{extended_one, extended_both}

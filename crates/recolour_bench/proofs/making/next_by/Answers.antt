@@ -24,3 +24,12 @@ returns-in-Some-clause-refused c = λ _.
     ] in
     IsRefusedAt-product c.args.raw.now c.args.closure.now c.in-Direct-1.other.now c.args.position (edit_of c.args.edit.now) c.in-Some.fault c.requires.within c.requires.closure is
     (sym c.product_refusal.ensures ∙ c.in-Some.is)
+
+pub next_with-requires-in-Direct-clause-closure : goal.next_with-requires-in-Direct-clause-closure
+next_with-requires-in-Direct-clause-closure c = c.requires.closure
+
+pub returns-in_default : goal.returns-in_default
+returns-in_default c = c.next_with.ensures
+
+pub returns-in_ok-closed-in-Direct-clause-made : goal.returns-in_ok-closed-in-Direct-clause-made
+returns-in_ok-closed-in-Direct-clause-made c = c.next_with-in-Direct.ensures.made

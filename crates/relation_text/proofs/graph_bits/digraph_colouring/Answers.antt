@@ -1,7 +1,7 @@
 use Rattle.std.proofs.Common.{◌≡◌, ℕ, arith, ◌∙◌, ap, subst}
 use Rattle.relation_text.specs.Relation.{pair_colour}
 use Rattle.relation_text.proofs.BitLoops.{ArcsTo, ArcsTo-more, ArcsTo-next}
-use Rattle.relation_text.proofs.SameColours.{IsColouring-set, IsColouring-filled}
+use Rattle.pair_colours.proofs.SameColours.{IsColouring-set, IsColouring-filled}
 use Rattle.relation_text.proofs.graph_bits.digraph_colouring.Goals as goal
 
 pub loop-j-preserved : goal.loop-j-preserved

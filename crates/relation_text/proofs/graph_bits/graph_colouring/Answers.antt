@@ -1,7 +1,7 @@
 use Rattle.std.proofs.Common.{◌≡◌, ℕ, refl, arith, ◌∙◌, ap, subst}
 use Rattle.relation_text.specs.Relation.{pair_colour}
 use Rattle.relation_text.proofs.BitLoops.{EdgesTo, EdgesTo-more, EdgesTo-next, place_within, place_small}
-use Rattle.relation_text.proofs.SameColours.{IsColouring-set, IsColouring-filled, colour_at-filled}
+use Rattle.pair_colours.proofs.SameColours.{IsColouring-set, IsColouring-filled, colour_at-filled}
 use Rattle.relation_text.proofs.graph_bits.graph_colouring.Goals as goal
 
 pub bit_in-requires-clause-inside : goal.bit_in-requires-clause-inside

@@ -3,7 +3,7 @@ use Rattle.text_lines.specs.Views.{part_of}
 use Rattle.pair_colours.specs.Tests.{first_that_holds}
 use Rattle.relation_text.specs.Faults.{row_tests}
 use Rattle.relation_text.proofs.MatrixLoops.{has_row, rows_fault-few, rows_fault-here, ReadsRows-none, ReadsRows-more, matrix_fault-rows}
-use Rattle.relation_text.proofs.SameColours.{IsColouring-filled}
+use Rattle.pair_colours.proofs.SameColours.{IsColouring-filled}
 use Rattle.relation_text.proofs.matrices.read_matrix.Goals as goal
 
 pub returns-in_default-clause-fault : goal.returns-in_default-clause-fault

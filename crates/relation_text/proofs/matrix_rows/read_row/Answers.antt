@@ -1,7 +1,7 @@
 use Rattle.std.proofs.Common.{◌∙◌, sym, arith, rules, tests}
 use Rattle.text_lines.specs.Views.{part_of}
 use Rattle.relation_text.proofs.RowLoops.{ReadsRow-none, ReadsRow-more, has_word, no_word, fault_left-few}
-use Rattle.relation_text.proofs.SameColours.{IsColouring-set}
+use Rattle.pair_colours.proofs.SameColours.{IsColouring-set}
 use Rattle.relation_text.proofs.matrix_rows.read_row.Goals as goal
 
 pub loop-y-init : goal.loop-y-init

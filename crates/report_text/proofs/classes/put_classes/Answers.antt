@@ -1,5 +1,5 @@
 use Rattle.report_text.specs.Classes.{class_line}
-use Rattle.relation_text.proofs.RowWrites.{lines_more}
+use Rattle.text_lines.proofs.LinesText.{lines_more}
 use Rattle.report_text.proofs.classes.put_classes.Goals as goal
 
 pub loop-class-preserved : goal.loop-class-preserved

@@ -7,7 +7,7 @@ pub overflow_add-count : goal.overflow_add-count
 overflow_add-count c =
     let K = c.args.k.now in
     let below : c.loop-class.class + 1 ≤ rank_of K = omega arith in
-    let few = listed-few K (c.loop-class.class + 1) c.rank-class-end.ensures.configuration.fits below in
+    let few = listed-few K (c.loop-class.class + 1) c.rank-class-end.ensures.fits below in
     let more = length_more K c.loop-class.class c.entries.result.now c.entries.ensures.row c.entries.ensures.classes c.loop-class.count (c.loop-class.count + length c.entries.result.now) c.loop-class.invariant refl in
     omega (arith, few, more)
 

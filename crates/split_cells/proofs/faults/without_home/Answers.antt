@@ -37,3 +37,31 @@ loop-p-preserved c =
 pub returns-clause-none : goal.returns-clause-none
 returns-clause-none c =
     HasHomes-from c.args.pairs.now c.requires.classed (λ p l. c.loop-p.invariant p (omega (arith, l, c.loop-p-test.false, ap (λ m. m * m) c.points-points.ensures)))
+
+pub index-class-requires : goal.index-class-requires
+index-class-requires c =
+    let pairs = c.args.pairs.now in
+    let h = c.requires.classed in
+    omega (arith, c.loop-p-test.true, ap (λ m. m * m) c.points-points.ensures, h.parting.classes, h.bound, pairs.parting.class.ok.0)
+
+pub home-left-requires-clause-inside : goal.home-left-requires-clause-inside
+home-left-requires-clause-inside c = omega (arith, c.loop-p-test.true, ap (λ m. m * m) c.points-points.ensures, c.requires.classed.bound)
+
+pub first-requires-clause-class : goal.first-requires-clause-class
+first-requires-clause-class c =
+    let pairs = c.args.pairs.now in
+    let n = pairs.size in
+    let h = c.requires.classed in
+    let p = c.loop-p.p in
+    let hp : p < n * n = omega (arith, c.loop-p-test.true, ap (λ m. m * m) c.points-points.ensures) in
+    omega (arith, get_or_read pairs.parting.class.items p c.index-class.result.now (omega (arith, hp, h.parting.classes, h.bound)) c.index-class.ensures 0, h.parting.class_in p (omega (arith, hp, h.bound)))
+
+pub first-requires-clause-member : goal.first-requires-clause-member
+first-requires-clause-member c =
+    let pairs = c.args.pairs.now in
+    let n = pairs.size in
+    let h = c.requires.classed in
+    let p = c.loop-p.p in
+    let hp : p < n * n = omega (arith, c.loop-p-test.true, ap (λ m. m * m) c.points-points.ensures) in
+    c.requires.used c.index-class.result.now
+    (omega (arith, get_or_read pairs.parting.class.items p c.index-class.result.now (omega (arith, hp, h.parting.classes, h.bound)) c.index-class.ensures 0, h.parting.class_in p (omega (arith, hp, h.bound))))

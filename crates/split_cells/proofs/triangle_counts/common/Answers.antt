@@ -1,6 +1,5 @@
 use Rattle.std.proofs.Common.{◌==◌, ◌&&◌, get_or, ap, arith}
-use Rattle.pair_colours.proofs.Counts.{unit_of}
-use Rattle.wl_round.proofs.PointCounts.{count_more, count_short}
+use Rattle.pair_colours.proofs.Counts.{unit_of, count_more, count_short}
 use Rattle.split_cells.proofs.triangle_counts.common.Goals as goal
 use Rattle.split_cells.proofs.triangle_counts.common.Goals.{then-has_both, else-has_both}
 

@@ -1,6 +1,8 @@
 use Rattle.std.proofs.Common.{◌≡◌, ◌==◌, ◌&&◌, ◌+◌, ◌*◌, ◌/◌, ◌%◌, ◌<◌, get_or, set, sym, ap, subst, ◌∙◌, arith}
 use Rattle.split_cells.specs.Counts.{Counts}
 use Rattle.split_cells.specs.Segments.{stands_at}
+use Rattle.pair_colours.proofs.Places.{place_below}
+use Rattle.split_cells.proofs.CellLemmas.{few_pairs}
 use Rattle.split_cells.proofs.NestedSides.{IsSideCountedTo, IsSideCountedTo-hit, IsSideCountedTo-miss, IsRowCounted-over, second_in}
 use Rattle.split_cells.proofs.triangle_counts.count_right_sides.Goals as goal
 use Rattle.split_cells.proofs.triangle_counts.count_right_sides.Goals.{then-has_both, else-has_both}
@@ -40,3 +42,55 @@ returns c =
     let h = c.requires.classed in
     IsRowCounted-over pairs.size c.args.t c.members-q-items.ensures.members (h.parting.classes ∙ h.bound) c.args.x c.args.z c.args.tally.now.counts c.requires.first c.requires.third
     c.loop-q.q-index c.loop-q.tally.counts (omega (arith, c.loop-q-test.false)) c.loop-q.invariant
+
+pub second-y-requires : goal.second-y-requires
+second-y-requires c =
+    let h = c.requires.classed in
+    omega (arith, c.members-q-items.ensures.members.inside c.loop-q.q-index c.loop-q-test.true, h.parting.classes, h.bound)
+
+pub first-requires : goal.first-requires
+first-requires c =
+    let h = c.requires.classed in
+    omega (arith, c.members-q-items.ensures.members.inside c.loop-q.q-index c.loop-q-test.true, h.parting.classes, h.bound)
+
+pub overflow_mul-x : goal.overflow_mul-x
+overflow_mul-x c =
+    let pairs = c.args.pairs.now in
+    let n = pairs.size in
+    let h = c.requires.classed in
+    let y = c.second-y.result in
+    let second : y < n = omega (
+      arith,
+      c.second-y.ensures,
+      second_in n c.args.t c.members-q-items.ensures.members (h.parting.classes ∙ h.bound) c.args.x c.args.z c.args.tally.now.counts c.requires.first c.requires.third
+          c.loop-q.q-index c.loop-q-test.true c.loop-q.tally.counts c.loop-q.invariant,
+    ) in
+    omega (arith, place_below n c.args.x y c.requires.first second, few_pairs n h.limit, ap (λ m. c.args.x * m) c.points-size.ensures)
+
+pub overflow_add-x : goal.overflow_add-x
+overflow_add-x c =
+    let pairs = c.args.pairs.now in
+    let n = pairs.size in
+    let h = c.requires.classed in
+    let y = c.second-y.result in
+    let second : y < n = omega (
+      arith,
+      c.second-y.ensures,
+      second_in n c.args.t c.members-q-items.ensures.members (h.parting.classes ∙ h.bound) c.args.x c.args.z c.args.tally.now.counts c.requires.first c.requires.third
+          c.loop-q.q-index c.loop-q-test.true c.loop-q.tally.counts c.loop-q.invariant,
+    ) in
+    omega (arith, place_below n c.args.x y c.requires.first second, few_pairs n h.limit, ap (λ m. c.args.x * m) c.points-size.ensures)
+
+pub bump-requires-clause-inside : goal.bump-requires-clause-inside
+bump-requires-clause-inside c =
+    let pairs = c.args.pairs.now in
+    let n = pairs.size in
+    let h = c.requires.classed in
+    let y = c.second-y.result in
+    let second : y < n = omega (
+      arith,
+      c.second-y.ensures,
+      second_in n c.args.t c.members-q-items.ensures.members (h.parting.classes ∙ h.bound) c.args.x c.args.z c.args.tally.now.counts c.requires.first c.requires.third
+          c.loop-q.q-index c.loop-q-test.true c.loop-q.tally.counts c.loop-q.invariant,
+    ) in
+    omega (arith, place_below n c.args.x y c.requires.first second, c.loop-q.invariant.len, ap (λ m. c.args.x * m) c.points-size.ensures)

@@ -5,17 +5,17 @@ use Rattle.struct_consts.proofs.KeptLemmas.{HasData, HasData-push, IsConstants-f
 use Rattle.struct_consts.proofs.classes.classes_of.Goals as goal
 
 pub first_pairs-requires : goal.first_pairs-requires
-first_pairs-requires c = record { below = λ x y hx hy. omega (arith, colour_at-below c.args.k.now c.requires x y hx hy, c.in_ok-rank.ensures) }
+first_pairs-requires c = record { below = λ x y hx hy. omega (arith, colour_at-below c.args.k.now c.requires.configuration x y hx hy, c.in_ok-rank.ensures) }
 
 pub class_sizes-requires : goal.class_sizes-requires
-class_sizes-requires c = record { below = λ x y hx hy. omega (arith, colour_at-below c.args.k.now c.requires x y hx hy, c.in_ok-rank.ensures) }
+class_sizes-requires c = record { below = λ x y hx hy. omega (arith, colour_at-below c.args.k.now c.requires.configuration x y hx hy, c.in_ok-rank.ensures) }
 
 pub unreachable-requires : goal.unreachable-requires
 unreachable-requires c =
     let K = c.args.k.now in
     let k = c.loop-colour.colour in
     let read = first_pair_read K c.in_ok-rank.rank k c.in_ok-pairs.pairs.items c.index.result.now c.in_ok-pairs.ensures c.loop-colour-test.true c.index.ensures in
-    let some = first_pair_some K c.requires k (omega (arith, c.loop-colour-test.true, c.in_ok-rank.ensures)) in
+    let some = first_pair_some K c.requires.configuration k (omega (arith, c.loop-colour-test.true, c.in_ok-rank.ensures)) in
     let none : first_pair_of K k ≡ None = read ∙ c.in_default.is in
     cc
 
@@ -45,4 +45,4 @@ pub returns : goal.returns
 returns c =
     let K = c.args.k.now in
     let end : c.loop-colour.colour ≡ rank_of K = omega (arith, c.in_ok-rank.ensures, c.loop-colour-test.false, c.loop-colour.auto.colour-end) in
-    IsConstants-from_data K c.loop-colour.classes.items c.requires (subst (λ n. HasData K n c.loop-colour.classes.items) end c.loop-colour.invariant)
+    IsConstants-from_data K c.loop-colour.classes.items c.requires.fits c.requires.configuration (subst (λ n. HasData K n c.loop-colour.classes.items) end c.loop-colour.invariant)

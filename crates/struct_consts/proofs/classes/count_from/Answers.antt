@@ -1,8 +1,7 @@
 use Rattle.std.proofs.Common.{◌≡◌, ◌==◌, ap, ◌∙◌, arith}
 use Rattle.std.proofs.lemmas.Bool.{eq-eqb, ne_eqb}
 use Rattle.pair_colours.specs.Colouring.{colour_at}
-use Rattle.pair_colours.proofs.Counts.{unit_of}
-use Rattle.triangle_count.proofs.RowLemmas.{count_more, count_short}
+use Rattle.pair_colours.proofs.Counts.{unit_of, count_more, count_short}
 use Rattle.struct_consts.proofs.classes.count_from.Goals as goal
 use Rattle.struct_consts.proofs.classes.count_from.Goals.{then-get-colour, else-get-colour}
 

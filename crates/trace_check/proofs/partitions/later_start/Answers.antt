@@ -3,9 +3,10 @@ use Rattle.std.proofs.lemmas.Result.{IfOk-weaker}
 use Rattle.pair_colours.specs.Colouring.{PairColouring}
 use Rattle.pair_colours.specs.Naming.{IsNamedMeet}
 use Rattle.trace_text.specs.Partition.{IsPartition, meet_of}
-use Rattle.trace_text.proofs.Meeting.{IsNamedMeet-unique, IsNamedMeet-meet_of}
+use Rattle.trace_text.proofs.Meeting.{IsNamedMeet-meet_of}
 use Rattle.trace_text.proofs.Partitions.{IsPartition-named_of}
 use Rattle.trace_check.proofs.partitions.later_start.Goals as goal
+use Rattle.pair_colours.proofs.Meets.{IsNamedMeet-unique}
 
 pub of-requires : goal.of-requires
 of-requires c =

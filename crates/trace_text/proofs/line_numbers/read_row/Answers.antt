@@ -1,11 +1,10 @@
 use Rattle.std.proofs.Common.{◌+◌, ◌*◌, ◌<◌, ◌≡◌, length, sym, ap, ◌∙◌, arith, refl}
 use Rattle.pair_colours.proofs.Places.{place_below}
 use Rattle.pair_colours.specs.declared.coloured_pairs.TheConstants.{MOST_COLOUR}
-use Rattle.trace_text.specs.TraceFault.{between_spaces}
-use Rattle.trace_text.specs.Reading.{words_left}
 use Rattle.trace_text.proofs.RowWords.{row_more, row_result, row_whole}
-use Rattle.trace_text.proofs.WordsLeft.{words_few, words_bad}
 use Rattle.trace_text.proofs.line_numbers.read_row.Goals as goal
+use Rattle.text_lines.specs.LineNumbers.{between_spaces, words_left}
+use Rattle.text_lines.proofs.WordsLeft.{words_few, words_bad}
 
 pub returns-in_default-clause-test : goal.returns-in_default-clause-test
 returns-in_default-clause-test c =

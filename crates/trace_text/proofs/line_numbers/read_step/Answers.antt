@@ -1,8 +1,8 @@
 use Rattle.std.proofs.Common.{◌≡◌, true, arith, rules, tests}
 use Rattle.std.specs.Prelude.{codes, bytes_eq}
-use Rattle.trace_text.specs.Reading.{words_left}
 use Rattle.trace_text.proofs.StepLines.{diag_read, flip_read, tri_read, round_read}
 use Rattle.trace_text.proofs.line_numbers.read_step.Goals as goal
+use Rattle.text_lines.specs.LineNumbers.{words_left}
 
 pub returns-then-eq : goal.returns-then-eq
 returns-then-eq c =

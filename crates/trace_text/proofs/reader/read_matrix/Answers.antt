@@ -1,8 +1,8 @@
 use Rattle.std.proofs.Common.{◌≡◌, ◌+◌, ◌*◌, ◌++◌, true, take, ap, sym, subst, ◌∙◌, arith, rules, tests}
 use Rattle.trace_text.specs.TraceFault.{is_row_line}
-use Rattle.trace_text.specs.Reading.{numbers_on}
 use Rattle.trace_text.proofs.MatrixRows.{rows_more, rows_all}
 use Rattle.trace_text.proofs.reader.read_matrix.Goals as goal
+use Rattle.text_lines.specs.LineNumbers.{numbers_on}
 
 pub loop-x-preserved : goal.loop-x-preserved
 loop-x-preserved c =

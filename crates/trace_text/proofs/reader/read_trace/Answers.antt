@@ -1,10 +1,11 @@
 use Rattle.std.proofs.Common.{sym, subst, ap, ◌∙◌}
 use Rattle.std.proofs.lemmas.Result.{err_from_is_err_and}
 use Rattle.trace_text.specs.TraceFault.{next_closure_row, at_head, fault_from}
-use Rattle.trace_text.specs.Reading.{Cursor, IsFaultOf}
+use Rattle.trace_text.specs.Reading.{IsFaultOf}
 use Rattle.trace_text.proofs.RowPlaces.{closure_rows, matrix_fault}
 use Rattle.trace_text.proofs.TraceRead.{closure_read}
 use Rattle.trace_text.proofs.reader.read_trace.Goals as goal
+use Rattle.text_lines.specs.LineCursor.{Cursor}
 
 pub returns-in_err-closure-clause-fault : goal.returns-in_err-closure-clause-fault
 returns-in_err-closure-clause-fault c =

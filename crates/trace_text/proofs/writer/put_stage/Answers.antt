@@ -1,8 +1,9 @@
 use Rattle.std.proofs.Common.{◌++◌, map, ap, ◌∙◌, arith}
 use Rattle.std.proofs.lemmas.List.{take_all}
-use Rattle.trace_text.specs.TraceText.{lines_text, step_line}
+use Rattle.trace_text.specs.TraceText.{step_line}
 use Rattle.trace_text.proofs.WrittenLines.{step_more, stage_text}
 use Rattle.trace_text.proofs.writer.put_stage.Goals as goal
+use Rattle.text_lines.specs.LinesText.{lines_text}
 
 pub loop-place-preserved : goal.loop-place-preserved
 loop-place-preserved c =

@@ -2,9 +2,10 @@ use Rattle.std.proofs.Common.{◌++◌, ap, ◌∙◌, arith}
 use Rattle.std.specs.Prelude.{codes, decimal}
 use Rattle.std.specs.List.{flat_map}
 use Rattle.std.proofs.lemmas.List.{take_all}
-use Rattle.trace_text.specs.TraceText.{lines_text, stage_lines}
+use Rattle.trace_text.specs.TraceText.{stage_lines}
 use Rattle.trace_text.proofs.WrittenLines.{whole_text}
 use Rattle.trace_text.proofs.writer.write_trace.Goals as goal
+use Rattle.text_lines.specs.LinesText.{lines_text}
 
 pub returns : goal.returns
 returns c =

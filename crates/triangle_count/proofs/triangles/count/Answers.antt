@@ -1,7 +1,6 @@
 use Rattle.std.proofs.Common.{◌==◌, ◌&&◌, ap, arith}
 use Rattle.pair_colours.specs.Colouring.{colour_at}
-use Rattle.pair_colours.proofs.Counts.{unit_of}
-use Rattle.triangle_count.proofs.RowLemmas.{count_more, count_short}
+use Rattle.pair_colours.proofs.Counts.{unit_of, count_more, count_short}
 use Rattle.triangle_count.proofs.triangles.count.Goals as goal
 use Rattle.triangle_count.proofs.triangles.count.Goals.{then-has_sides, else-has_sides}
 

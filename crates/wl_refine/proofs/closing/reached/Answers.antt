@@ -1,4 +1,4 @@
-use Rattle.std.proofs.Common.{◌≡◌, List, sym, subst, ◌∙◌}
+use Rattle.std.proofs.Common.{List, sym, subst}
 use Rattle.pair_colours.specs.Colouring.{PairColouring}
 use Rattle.pair_colours.specs.Closure.{Coherent}
 use Rattle.trace_text.specs.declared.step_list.Step.{Step}
@@ -11,12 +11,12 @@ use Rattle.wl_refine.proofs.closing.reached.Goals as goal
 pub returns : goal.returns
 returns c =
     let start = c.args.start in
-    let now = c.finish.new.way in
+    let now = c.end_of.new.way in
     let last = c.in_ok-last.last in
-    let same : last ≡ now.cells = c.in_ok-last.ensures.classes ∙ c.cells.ensures in
-    let leads = leads_from_start start c.from-way.result now c.from-way.ensures.steps c.from-way.ensures.cells c.in_ok-finish.ensures.on in
+    let end = c.in_ok-last.ensures in
+    let leads = leads_from_start start c.from-way.result now c.from-way.ensures.steps c.from-way.ensures.cells end.on in
     IsReached-from start _ (subst IsPartition c.from-way.ensures.cells c.from-way.ensures.within)
-    (subst (λ (l : List Step). Lead l start last) (sym c.into_steps.ensures.steps) (subst (λ (P : PairColouring). Lead now.steps start P) (sym same) leads))
-    c.into_steps.ensures.one_class
-    (subst (λ (P : PairColouring). Coherent P) (sym same) c.in_ok-finish.ensures.coherent)
+    (subst (λ (l : List Step). Lead l start last) (sym c.into_steps-steps.ensures.steps) (subst (λ (P : PairColouring). Lead now.steps start P) (sym end.last) leads))
+    c.into_steps-steps.ensures.one_class
+    (subst (λ (P : PairColouring). Coherent P) (sym end.last) end.coherent)
     c.in_ok-matrix.ensures

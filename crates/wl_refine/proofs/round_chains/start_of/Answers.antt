@@ -4,9 +4,10 @@ use Rattle.std.proofs.lemmas.Result.{IfOk-weaker}
 use Rattle.pair_colours.specs.Colouring.{PairColouring}
 use Rattle.pair_colours.specs.Naming.{IsNamedMeet}
 use Rattle.trace_text.specs.Partition.{meet_of}
-use Rattle.trace_text.proofs.Meeting.{IsNamedMeet-unique, IsNamedMeet-meet_of}
+use Rattle.trace_text.proofs.Meeting.{IsNamedMeet-meet_of}
 use Rattle.wl_refine.specs.RoundStarts.{start_at}
 use Rattle.wl_refine.proofs.round_chains.start_of.Goals as goal
+use Rattle.pair_colours.proofs.Meets.{IsNamedMeet-unique}
 
 pub meet-requires : goal.meet-requires
 meet-requires c = let stands = rw c.in-Some.is at c.requires.last in sym stands.1

@@ -1,8 +1,8 @@
 use Rattle.std.proofs.Common.{◌==◌, ◌+◌, get_or, refl, arith}
 use Rattle.wl_round.specs.CodeCounts.{sum_at}
-use Rattle.wl_round.proofs.PointCounts.{count_short}
 use Rattle.wl_round.proofs.SumCounts.{counted_more}
 use Rattle.wl_round.proofs.code_counts.count_up.Goals as goal
+use Rattle.pair_colours.proofs.Counts.{count_short}
 
 pub overflow_add-counts-in-loop-z : goal.overflow_add-counts-in-loop-z
 overflow_add-counts-in-loop-z c =

@@ -1,4 +1,4 @@
-use Rattle.std.proofs.Common.{◌≡◌, ◌≢◌, length, ◌+◌, Err, IfErr, inl, inr, refl, sym, ap, subst, ◌∙◌, arith}
+use Rattle.std.proofs.Common.{◌≡◌, ◌≢◌, List, length, ◌+◌, Err, IfErr, inl, inr, refl, sym, ap, subst, ◌∙◌, arith}
 use Rattle.std.proofs.lemmas.List.FromFn.{length-map-range_with_len}
 use Rattle.std.proofs.lemmas.Result.{err_from_is_err_and}
 use Rattle.pair_colours.specs.Colouring.{IsRawColouring, Refines}
@@ -6,7 +6,9 @@ use Rattle.recolour_bench.specs.declared.edits.EditFault.TheVariants.{NoMemory}
 use Rattle.recolour_bench.specs.Edits.{edit_of}
 use Rattle.recolour_bench.specs.Recolouring.{IsEdited}
 use Rattle.recolour_bench.specs.History.{History}
-use Rattle.recolour_bench.specs.Kept.{entry_kept, history_of}
+use Rattle.trace_text.specs.declared.stage_list.Stage.{Stage}
+use Rattle.recolour_bench.specs.declared.kept.Kept.{Kept}
+use Rattle.recolour_bench.specs.Kept.{IsKeptHistory, entry_kept, history_of}
 use Rattle.recolour_bench.specs.Steps.{edits, EditStep, IsRefused}
 use Rattle.recolour_bench.proofs.Keeping.{IsPresentEntry, IsMadeBy, IsPresentEntry-read, IsRefused-kept, IsForced-present, between, EditStep-kept, IsKeptHistory-edited}
 use Rattle.recolour_bench.proofs.RawEdits.{IsRawColouring-made}
@@ -91,3 +93,16 @@ returns-clause-step c = λ _. inl (accepted c)
 
 pub returns-clause-within : goal.returns-clause-within
 returns-clause-within c = (invariant_of-self-2 c).history
+
+pub next_by-requires-clause-within : goal.next_by-requires-clause-within
+next_by-requires-clause-within c = c.requires
+
+pub made_by-requires-clause-closed : goal.made_by-requires-clause-closed
+made_by-requires-clause-closed c = c.in_ok-raw.ensures.closed
+
+-- where there was no room, nothing has changed
+pub invariant_of-self : goal.invariant_of-self
+invariant_of-self c =
+    let same = c.in_err-put_after.ensures in
+    subst (λ (l : List Stage). IsKeptHistory l c.put_after.new.kept.items c.self.inside.position) (sym same.no_stage)
+    (subst (λ (l : List Kept). IsKeptHistory c.self.inside.stages.items l c.self.inside.position) (sym same.no_entry) c.self.invariant)

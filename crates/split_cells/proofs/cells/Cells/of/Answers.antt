@@ -9,7 +9,7 @@ use Rattle.split_cells.proofs.cells.Cells.of.Goals as goal
 
 pub parted-requires-clause-numbered : goal.parted-requires-clause-numbered
 parted-requires-clause-numbered c =
-    subst (λ (l : List ℕ). IsNumbered l) (sym c.colours.ensures.colours) (IsNumbered-partition c.args.colouring.now c.requires)
+    subst (λ (l : List ℕ). IsNumbered l) (sym c.colours-2.ensures.colours) (IsNumbered-partition c.args.colouring.now c.requires)
 
 pub invariant_of-result : goal.invariant_of-result
 invariant_of-result c =
@@ -19,7 +19,7 @@ invariant_of-result c =
     let fits = c.size-points.ensures.within in
     let points = c.size-points.ensures.points in
     let same : n ≡ K.size = c.in_ok-size.ensures ∙ points in
-    let is : class ≡ K.colours = c.in_ok-parting.ensures.class ∙ c.colours.ensures.colours in
+    let is : class ≡ K.colours = c.in_ok-parting.ensures.class ∙ c.colours-2.ensures.colours in
     let len : length class ≡ n * n = ap length is ∙ fits.colouring.has_pairs ∙ (λ i. sym same i * sym same i) in
     let size : c.size-points.result ≡ n = sym c.in_ok-size.ensures in
     let labels : AreLabels (n * n) 0 c.in_ok-labels.labels.outer.items c.in_ok-labels.labels.inner.items =
@@ -33,7 +33,7 @@ invariant_of-result c =
           bound = sym c.in_ok-parting.ensures.parting.classes ∙ len;
           turned =
               subst (λ m. IsTurned m class c.in_ok-turned.turned.items) size
-              (subst (λ (l : List ℕ). IsTurned c.size-points.result l c.in_ok-turned.turned.items) (c.colours-2.ensures.colours ∙ sym is) c.in_ok-turned.ensures);
+              (subst (λ (l : List ℕ). IsTurned c.size-points.result l c.in_ok-turned.turned.items) (c.colours.ensures.colours ∙ sym is) c.in_ok-turned.ensures);
         };
         used = c.in_ok-parting.ensures.used;
         numbers = record { inverse = labels.inverse; rest = λ k b l. labels.rest k (omega arith) l };
@@ -47,7 +47,7 @@ returns c =
     let class = c.in_ok-parting.parting.class.items in
     let outer = c.in_ok-labels.labels.outer.items in
     let points = c.size-points.ensures.points in
-    let is : class ≡ K.colours = c.in_ok-parting.ensures.class ∙ c.colours.ensures.colours in
+    let is : class ≡ K.colours = c.in_ok-parting.ensures.class ∙ c.colours-2.ensures.colours in
     let few : length class ≡ c.size-points.result * c.size-points.result =
     ap length is ∙ c.size-points.ensures.within.colouring.has_pairs ∙ (λ i. sym points i * sym points i) in
     let h = c.in_ok-parting.ensures.parting in

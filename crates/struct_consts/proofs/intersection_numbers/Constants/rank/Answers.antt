@@ -6,7 +6,7 @@ use Rattle.struct_consts.proofs.Configurations.{class_is_colour, colour_at-below
 use Rattle.struct_consts.proofs.intersection_numbers.Constants.rank.Goals as goal
 
 pub overflow_cast-result : goal.overflow_cast-result
-overflow_cast-result c = omega (arith, c.self.invariant.rank, few_met c.self.inside.colouring c.self.invariant.configuration.fits)
+overflow_cast-result c = omega (arith, c.self.invariant.rank, few_met c.self.inside.colouring c.self.invariant.fits)
 
 pub returns-clause-colours : goal.returns-clause-colours
 returns-clause-colours c =

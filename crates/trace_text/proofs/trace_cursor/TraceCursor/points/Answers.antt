@@ -1,6 +1,6 @@
 use Rattle.std.proofs.Common.{◌∷◌, ap, sym, ◌∙◌}
-use Rattle.trace_text.proofs.LineReadings.{points_back}
 use Rattle.trace_text.proofs.trace_cursor.TraceCursor.points.Goals as goal
+use Rattle.text_lines.proofs.PointsLine.{points_back}
 
 pub returns-in-Some-clause-taken : goal.returns-in-Some-clause-taken
 returns-in-Some-clause-taken c =

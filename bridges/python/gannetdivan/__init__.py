@@ -1,0 +1,74 @@
+"""Coherent configurations and association schemes, by the program ``cohere``.
+
+`closure` takes a graph or a matrix of colours, and gives the `Configuration` that is its coherent closure.
+A `Session` keeps a history of edits, and asks over them. `check` judges a certificate of a closure.
+
+``python3 -m gannetdivan each`` answers a script over many graphs, and ``python3 -m gannetdivan draw`` makes
+pictures.
+
+Every answer is computed by the program, each function of which is proved to meet its contract. This package
+is plain Python: it hands over questions and reads answers, and nothing of that is proved.
+
+Points, colours and classes are numbered from 0.
+"""
+
+from .answers import (
+    ClassRow,
+    Constants,
+    Disconnected,
+    Edited,
+    IntersectionArray,
+    Irregular,
+    MatrixAnswer,
+    Page,
+    Raw,
+    Refusal,
+    SchemeTests,
+    Verdict,
+)
+from .configuration import Configuration, closure
+from .errors import (
+    BadInput,
+    BadRelation,
+    BadScript,
+    BadTrace,
+    CohereError,
+    OutOfMemory,
+    ProgramFailed,
+    ProgramMissing,
+    Refused,
+    UnreadableAnswer,
+)
+from .session import Session
+from .traces import check
+
+__version__ = "0.1"
+
+__all__ = [
+    "BadInput",
+    "BadRelation",
+    "BadScript",
+    "BadTrace",
+    "ClassRow",
+    "CohereError",
+    "Configuration",
+    "Constants",
+    "Disconnected",
+    "Edited",
+    "IntersectionArray",
+    "Irregular",
+    "MatrixAnswer",
+    "OutOfMemory",
+    "Page",
+    "ProgramFailed",
+    "ProgramMissing",
+    "Raw",
+    "Refusal",
+    "Refused",
+    "SchemeTests",
+    "Session",
+    "UnreadableAnswer",
+    "Verdict",
+    "check",
+    "closure",
+]

@@ -1,7 +1,0 @@
-use Rattle.std.proofs.Common.{sym, subst}
-use Rattle.trace_text.specs.Partition.{IsPartition}
-use Rattle.trace_text.proofs.Partitions.{IsPartition-named_of}
-use Rattle.wl_refine.proofs.tests.is_replayed.Goals as goal
-
-pub of-requires : goal.of-requires
-of-requires c = subst IsPartition (sym c.in_ok-named.ensures) (IsPartition-named_of c.args.start.now c.size-size.ensures.within.colouring)

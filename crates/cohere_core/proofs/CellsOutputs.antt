@@ -67,7 +67,7 @@ has_cell_line claim = let v = verdict_of claim in (cell_verdict_text v.0, (v.0, 
 line_is_some_output : (files : Files) (trace : List ℕ) (claim : CellClaim) (t : List ℕ) → IsCellTraceFile files trace claim → TellsCellVerdict claim t
     → IsSomeOutputOf files (CheckCells trace) t
 line_is_some_output files trace claim t file tells =
-    line_is_output (IsCellTraceFile files trace) AcceptsCells TellsCellVerdict claim t file (accepts_or_not claim tells.0 tells.1) tells
+    line_is_output CellClaim (IsCellTraceFile files trace) AcceptsCells TellsCellVerdict claim t file (accepts_or_not claim tells.0 tells.1) tells
 
 -- ---- the output
 
@@ -86,7 +86,7 @@ cells_accepted (Some files) trace claim verdict points cells steps old new file 
     record {
       good = good_cells files trace claim file;
       added = (cell_verdict_text verdict, (claim, file, yes.accepts, (verdict, is, refl)), added);
-      is = accepted_is_done (IsCellTraceFile files trace) AcceptsCells claim (λ other read. same_claim files trace claim other file read) yes.accepts;
+      is = accepted_is_done CellClaim (IsCellTraceFile files trace) AcceptsCells claim (λ other read. same_claim files trace claim other file read) yes.accepts;
     }
 
 pub cells_refused : (files : Option Files) (trace : List ℕ) (claim : CellClaim) (verdict : CellVerdict) (line : ℕ) (word : CellCheck) (old new : Option (List ℕ))
@@ -99,7 +99,7 @@ cells_refused (Some files) trace claim verdict line word old new file e is added
     record {
       good = good_cells files trace claim file;
       added = (cell_verdict_text verdict, (claim, file, no, (verdict, is, refl)), added);
-      is = refused_is_no (IsCellTraceFile files trace) AcceptsCells claim (λ other read. same_claim files trace claim other file read) no;
+      is = refused_is_no CellClaim (IsCellTraceFile files trace) AcceptsCells claim (λ other read. same_claim files trace claim other file read) no;
     }
 
 pub cells_front : (files : Option Files) (trace : List ℕ) (claim : CellClaim) (fault : SessionFault) (old new : Option (List ℕ))

@@ -67,7 +67,7 @@ has_line claim some = let v = verdict_of claim some in (verdict_text_of v.0, (v.
 -- which is an output of its file
 line_is_some_output : (files : Files) (trace : List ℕ) (claim : Claim) (t : List ℕ) → IsTraceFile files trace claim → TellsVerdict claim t → IsSomeOutputOf files (Check trace) t
 line_is_some_output files trace claim t file tells =
-    line_is_output (IsTraceFile files trace) Accepts TellsVerdict claim t file (accepts_or_not claim tells.0 tells.1) tells
+    line_is_output Claim (IsTraceFile files trace) Accepts TellsVerdict claim t file (accepts_or_not claim tells.0 tells.1) tells
 
 -- ---- the output
 
@@ -86,7 +86,7 @@ check_accepted (Some files) trace claim verdict points rank steps old new file e
     record {
       good = good_trace files trace claim file;
       added = (verdict_text_of verdict, (claim, file, yes.accepts, (verdict, is, refl)), added);
-      is = accepted_is_done (IsTraceFile files trace) Accepts claim (λ other read. same_claim files trace claim other file read) yes.accepts;
+      is = accepted_is_done Claim (IsTraceFile files trace) Accepts claim (λ other read. same_claim files trace claim other file read) yes.accepts;
     }
 
 pub check_refused : (files : Option Files) (trace : List ℕ) (claim : Claim) (verdict : Verdict) (line : ℕ) (word : CheckWord) (old new : Option (List ℕ))
@@ -99,7 +99,7 @@ check_refused (Some files) trace claim verdict line word old new file e is added
     record {
       good = good_trace files trace claim file;
       added = (verdict_text_of verdict, (claim, file, no, (verdict, is, refl)), added);
-      is = refused_is_no (IsTraceFile files trace) Accepts claim (λ other read. same_claim files trace claim other file read) no;
+      is = refused_is_no Claim (IsTraceFile files trace) Accepts claim (λ other read. same_claim files trace claim other file read) no;
     }
 
 pub check_front : (files : Option Files) (trace : List ℕ) (claim : Claim) (fault : SessionFault) (old new : Option (List ℕ)) → IfSome files (λ files. IsTraceFile files trace claim)

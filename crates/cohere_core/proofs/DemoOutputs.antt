@@ -124,11 +124,13 @@ part_of_head number a b view is part =
     let e : take part.0 view ≡ take part.0 t.0 =
     ap (take part.0) is ∙ sym (take-append-le part.0 first (t.1.answers ++ t.1.last) (omega (arith, part.1, ap length is)))
     ∙ ap (take part.0) (sym (append_assoc first t.1.answers t.1.last) ∙ sym t.1.text) in
+    let longer : length t.0 ≡ length first + length (t.1.answers ++ t.1.last) =
+    ap length (t.1.text ∙ append_assoc first t.1.answers t.1.last) ∙ length-append first (t.1.answers ++ t.1.last) in
     record {
       text = t.0;
       count = part.0;
       is = t.1;
-      proper = λ _. omega (arith, part.1, ap length is, ap length t.1.text, length-append first (t.1.answers ++ t.1.last));
+      proper = λ _. omega (arith, part.1, ap length is, longer);
       added = subst (Appends a b) e part.2;
     }
 

@@ -5,17 +5,17 @@ use Rattle.cohere_core.specs.declared.status.Status.TheVariants.{Done, CheckedNo
 use Rattle.cohere_core.specs.CheckForm.{IsJudgedBy, JudgesClaim}
 
 -- the status of a claim that is accepted, and of one that is not, where a file holds one claim
-pub accepted_is_done : {Claim : Type 0} (IsFile IsAccepted : Claim → Type 0) (claim : Claim) → ((other : Claim) → IsFile other → claim ≡ other) → IsAccepted claim
-    → IsJudgedBy {Claim} IsFile IsAccepted Done
-accepted_is_done IsFile IsAccepted claim one yes =
+pub accepted_is_done : (Claim : Type 0) (IsFile IsAccepted : Claim → Type 0) (claim : Claim) → ((other : Claim) → IsFile other → claim ≡ other) → IsAccepted claim
+    → IsJudgedBy Claim IsFile IsAccepted Done
+accepted_is_done Claim IsFile IsAccepted claim one yes =
     record { accepted = λ other file accepted. refl; refused = λ other file no. absurd (no (subst IsAccepted (one other file) yes)) }
 
-pub refused_is_no : {Claim : Type 0} (IsFile IsAccepted : Claim → Type 0) (claim : Claim) → ((other : Claim) → IsFile other → claim ≡ other) → (IsAccepted claim → ⊥)
-    → IsJudgedBy {Claim} IsFile IsAccepted CheckedNo
-refused_is_no IsFile IsAccepted claim one no =
+pub refused_is_no : (Claim : Type 0) (IsFile IsAccepted : Claim → Type 0) (claim : Claim) → ((other : Claim) → IsFile other → claim ≡ other) → (IsAccepted claim → ⊥)
+    → IsJudgedBy Claim IsFile IsAccepted CheckedNo
+refused_is_no Claim IsFile IsAccepted claim one no =
     record { accepted = λ other file yes. absurd (no (subst IsAccepted (sym (one other file)) yes)); refused = λ other file refused. refl }
 
 -- the line of a claim is an output
-pub line_is_output : {Claim : Type 0} (IsFile IsAccepted : Claim → Type 0) (Tells : Claim → List ℕ → Type 0) (claim : Claim) (t : List ℕ) → IsFile claim
-    → IsAccepted claim ⊎ (IsAccepted claim → ⊥) → Tells claim t → JudgesClaim {Claim} IsFile IsAccepted Tells Done t ⊎ JudgesClaim {Claim} IsFile IsAccepted Tells CheckedNo t
-line_is_output IsFile IsAccepted Tells claim t file either tells = ⊎_elim (λ yes. inl (claim, file, yes, tells)) (λ no. inr (claim, file, no, tells)) either
+pub line_is_output : (Claim : Type 0) (IsFile IsAccepted : Claim → Type 0) (Tells : Claim → List ℕ → Type 0) (claim : Claim) (t : List ℕ) → IsFile claim
+    → IsAccepted claim ⊎ (IsAccepted claim → ⊥) → Tells claim t → JudgesClaim Claim IsFile IsAccepted Tells Done t ⊎ JudgesClaim Claim IsFile IsAccepted Tells CheckedNo t
+line_is_output Claim IsFile IsAccepted Tells claim t file either tells = ⊎_elim (λ yes. inl (claim, file, yes, tells)) (λ no. inr (claim, file, no, tells)) either

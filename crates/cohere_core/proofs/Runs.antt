@@ -97,12 +97,12 @@ has_query h Classes i m = has_configuration h i (λ K t. t ≡ classes_text_of K
 has_query h Constants i m = has_configuration h i (λ K t. t ≡ constants_text_of K) (λ K _ _. (constants_text_of K, refl))
 has_query h Tests i m =
     has_configuration h i (λ K t. (tests : SchemeTests) × AreAnswers K tests × (t ≡ tests_text_of tests))
-    (λ K is fits. let answers = answers_exist K (record { fits = fits; coherent = is.closure.coherent; named = is.named }) in (tests_text_of answers.0, (answers.0, answers.1, refl)))
+    (λ K is fits. let answers = answers_exist K (record { colouring = fits.colouring; coherent = is.closure.coherent; named = is.named }) in (tests_text_of answers.0, (answers.0, answers.1, refl)))
 has_query h Closed i m = has_configuration h i (λ K t. ListsClosed K t) (λ K _ _. has_closed K)
 has_query h (Quotient set) i m = has_configuration h i (λ K t. AnswersQuotient K set t) (λ K is fits. has_quotient K set fits.colouring is.closure.coherent)
 has_query h (Sub x set) i m = has_configuration h i (λ K t. AnswersSub K x set t) (λ K is fits. has_sub K x set fits.colouring is.closure.coherent)
 has_query h (Close string) i m =
-    has_configuration h i (λ K t. AnswersClose K string t) (λ K is fits. has_close K (record { fits = fits; coherent = is.closure.coherent; named = is.named }) string)
+    has_configuration h i (λ K t. AnswersClose K string t) (λ K is fits. has_close K (record { colouring = fits.colouring; coherent = is.closure.coherent; named = is.named }) string)
 has_query h Good i m = has_configuration h i (λ K t. ListsGood K t) (λ K _ _. has_good K)
 has_query h (Mergings most after) i m = has_configuration h i (λ K t. AnswersMergings K most after t) (λ K _ _. has_mergings K most after)
 has_query h (Trace version) i m = has_configuration h i (λ K t. TellsTrace version h K t) (λ K _ _. has_trace h version K i)

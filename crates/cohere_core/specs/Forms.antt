@@ -56,6 +56,6 @@ IsSomeOutputOf files task t = IsOutputOf files task Done t ⊎ IsOutputOf files 
 
 -- the status after the whole output over these files: where a claim is judged, that of the claim, and else Done
 abbrev pub IsWholeStatus : Files → Task → Status → Type 0
-IsWholeStatus files (Check trace) status = IsJudgedBy {Claim} (IsTraceFile files trace) Accepts status
-IsWholeStatus files (CheckCells trace) status = IsJudgedBy {CellClaim} (IsCellTraceFile files trace) AcceptsCells status
+IsWholeStatus files (Check trace) status = IsJudgedBy Claim (IsTraceFile files trace) Accepts status
+IsWholeStatus files (CheckCells trace) status = IsJudgedBy CellClaim (IsCellTraceFile files trace) AcceptsCells status
 IsWholeStatus files _ status = status ≡ Done

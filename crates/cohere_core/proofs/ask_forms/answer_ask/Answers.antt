@@ -1,4 +1,4 @@
-use Rattle.std.proofs.Common.{sym, subst}
+use Rattle.std.proofs.Common.{sym, subst, ap, Err}
 use Rattle.scheme_io.specs.Count.{Rose}
 use Rattle.cohere_inputs.specs.Asked.{asked_ask}
 use Rattle.cohere_inputs.specs.Said.{AddsLine}
@@ -39,5 +39,5 @@ returns-clause-ending g c =
     let failed = Rose (g.O.Sink.faults c.args.out.now) (g.O.Sink.faults c.write_answer.new.out) in
     let says = AddsLine g.E.Sink.written g.E.Sink.faults c.args.err.now c.status_of_fault.new.err in
     subst (λ (s : Status). IsEnding files (Ask (asked_ask c.args.words)) s rose failed old new says) (sym c.status_of_fault.ensures.status)
-    (cut_off files (Ask (asked_ask c.args.words)) fault rose failed old new says (ask_front files (asked_ask c.args.words) c.in-Ok.relation fault old new c.in-Ok.ensures.read c.in-Err-write_answer.ensures.front) c.in-Err-write_answer.ensures.failed
+    (cut_off files (Ask (asked_ask c.args.words)) fault rose failed old new says (ask_front files (asked_ask c.args.words) c.in-Ok.relation fault old new c.in-Ok.ensures.read c.in-Err-write_answer.ensures.front) (λ e. c.in-Err-write_answer.ensures.failed (ap Err e))
     (subst (λ (s : Status). LineAfter s says) c.status_of_fault.ensures.status c.status_of_fault.ensures.line))

@@ -1,4 +1,4 @@
-use Rattle.std.proofs.Common.{sym, subst}
+use Rattle.std.proofs.Common.{sym, subst, ap, Err}
 use Rattle.scheme_io.specs.Count.{Rose}
 use Rattle.cohere_inputs.specs.Said.{AddsLine}
 use Rattle.cohere_inputs.specs.Task.{Check}
@@ -49,5 +49,5 @@ returns-clause-ending g c =
     let failed = Rose (g.O.Sink.faults c.args.out.now) (g.O.Sink.faults c.judge.new.out) in
     let says = AddsLine g.E.Sink.written g.E.Sink.faults c.args.err.now c.status_of_fault.new.err in
     subst (λ (s : Status). IsEnding files (Check c.args.trace.now) s rose failed old new says) (sym c.status_of_fault.ensures.status)
-    (cut_off files (Check c.args.trace.now) fault rose failed old new says (check_front files c.args.trace.now c.in-Ok.claim fault old new c.in-Ok.ensures.read c.in-Err-judge.ensures.front) c.in-Err-judge.ensures.failed
+    (cut_off files (Check c.args.trace.now) fault rose failed old new says (check_front files c.args.trace.now c.in-Ok.claim fault old new c.in-Ok.ensures.read c.in-Err-judge.ensures.front) (λ e. c.in-Err-judge.ensures.failed (ap Err e))
     (subst (λ (s : Status). LineAfter s says) c.status_of_fault.ensures.status c.status_of_fault.ensures.line))

@@ -1,4 +1,4 @@
-use Rattle.std.proofs.Common.{length, ◌∙◌, ap, sym, subst}
+use Rattle.std.proofs.Common.{length, ◌∙◌, ap, sym, subst, Err}
 use Rattle.std.specs.Prelude.{All}
 use Rattle.scheme_io.specs.Count.{Rose}
 use Rattle.pair_colours.specs.Colouring.{IsRawColouring}
@@ -59,5 +59,5 @@ returns-clause-ending g c =
     let front = over_read (λ products lines. AddsUntil fault (ScriptOutput inputs.relation products lines) old new) inputs.products.items c.deref-2.result.now inputs.lines.items c.deref.result.now
     c.deref-2.ensures.value c.deref.ensures.value c.in-Err-answer_script.ensures.front in
     subst (λ (s : Status). IsEnding files (Run run) s rose failed old new says) (sym c.status_of_fault.ensures.status)
-    (cut_off files (Run run) fault rose failed old new says (run_front files run inputs.relation inputs.lines.items inputs.products.items fault old new c.in-Ok.ensures.read front) c.in-Err-answer_script.ensures.failed
+    (cut_off files (Run run) fault rose failed old new says (run_front files run inputs.relation inputs.lines.items inputs.products.items fault old new c.in-Ok.ensures.read front) (λ e. c.in-Err-answer_script.ensures.failed (ap Err e))
     (subst (λ (s : Status). LineAfter s says) c.status_of_fault.ensures.status c.status_of_fault.ensures.line))

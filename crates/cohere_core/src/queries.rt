@@ -135,8 +135,7 @@ fn listed_closed(
 ) -> Result<Vec<u8>, NoMemory>
     ensures { IfOk result (λ text. OfConfiguration bench.now (λ K. ListsClosed K text.items)) }
 {
-    let constants = constants_of(alloc, bench)?;
-    closed_answer(alloc, &constants, visitor)
+    closed_answer(alloc, bench.closure(), visitor)
 }
 
 // The quotient of the closure by a set of classes.
@@ -157,16 +156,14 @@ fn restricted(alloc: Global, bench: &Bench, x: u32, set: &[u32]) -> Result<Vec<u
 fn closed_string(alloc: Global, bench: &Bench, string: &[u32]) -> Result<Vec<u8>, NoMemory>
     ensures { IfOk result (λ text. OfConfiguration bench.now (λ K. AnswersClose K string.now text.items)) }
 {
-    let constants = constants_of(alloc, bench)?;
-    close_answer(alloc, &constants, string)
+    close_answer(alloc, bench.closure(), string)
 }
 
 // The good subsets of the closure.
 fn listed_good(alloc: Global, bench: &Bench, visitor: &mut dyn Visitor) -> Result<Vec<u8>, NoMemory>
     ensures { IfOk result (λ text. OfConfiguration bench.now (λ K. ListsGood K text.items)) }
 {
-    let constants = constants_of(alloc, bench)?;
-    good_answer(alloc, &constants, visitor)
+    good_answer(alloc, bench.closure(), visitor)
 }
 
 // The first fusions of the closure, from the first on or after a string.
@@ -180,13 +177,11 @@ fn listed_mergings(
     requires { IsLimit most }
     ensures { IfOk result (λ text. OfConfiguration bench.now (λ K. AnswersMergings K most after.now text.items)) }
 {
-    let constants = constants_of(alloc, bench)?;
-    match after {
-        None => mergings_answer(alloc, &constants, most, None, visitor),
-        Some(string) => {
-            mergings_answer(alloc, &constants, most, Some(string.as_slice()), visitor)
-        }
-    }
+    let string = match after {
+        None => None,
+        Some(string) => Some(string.as_slice()),
+    };
+    mergings_answer(alloc, bench.closure(), most, string, visitor)
 }
 
 /// The trace, of version 1, of the chain that shows the closure.

@@ -10,11 +10,7 @@ use text_lines::Text;
 use visitors::Visitor;
 
 /// Puts the lines of the first `count` entries at the end, each with single spaces between its numbers.
-pub fn put_entries(
-    text: &mut Text,
-    visitor: &dyn Visitor,
-    count: u32,
-) -> Result<(), AllocError>
+pub fn put_entries(text: &mut Text, visitor: &dyn Visitor, count: u32) -> Result<(), AllocError>
     requires { count ≤ length (met visitor.now) }
     ensures { OnOk result (text.new ≡ text.old ++ entry_lines (take count (met visitor.now))) }
 {

@@ -23,6 +23,8 @@ returns-in_err-put_all-clause-front g c =
     (part_until (AnswersQuestion c.args.relation.now question) c.in_ok-text.text.items c.deref.result.now _ _ c.in_ok-text.ensures c.deref.ensures.value c.in_err-put_all.ensures.part)
 
 pub returns-clause-all : goal.returns-clause-all
-returns-clause-all g c =
-    (c.in_ok-text.text.items, c.in_ok-text.ensures,
-    subst (Appends (g.O.Sink.written c.args.out.now) (g.O.Sink.written c.put_all.new.sink)) c.deref.ensures.value c.in_ok-put_all.ensures.all)
+returns-clause-all g c = (
+  c.in_ok-text.text.items,
+  c.in_ok-text.ensures,
+  subst (Appends (g.O.Sink.written c.args.out.now) (g.O.Sink.written c.put_all.new.sink)) c.deref.ensures.value c.in_ok-put_all.ensures.all,
+)

@@ -1,13 +1,10 @@
-use Rattle.std.proofs.Common.{◌≡◌, ◌≤◌, Err, ap, sym, ◌∙◌, ⊎_elim}
+use Rattle.std.proofs.Common.{◌≡◌, Err, ap, sym, ◌∙◌}
 use Rattle.std.specs.Prelude.{codes}
-use Rattle.std.proofs.lemmas.Bool.{cases_lt}
 use Rattle.std.proofs.lemmas.Result.{IfOk-weaker}
-use Rattle.pair_colours.specs.Naming.{rank_of}
-use Rattle.visitors.specs.declared.visitor.TheConstants.{MOST_SET_RANK}
 use Rattle.report_text.specs.EditLines.{refused_text_of}
 use Rattle.cohere_core.specs.Fusions.{AnswersMergings, string_in}
 use Rattle.cohere_core.proofs.FusionAnswers.{few_met, mergings_text, mergings_refused}
-use Rattle.cohere_core.proofs.fusion_queries.mergings_answer.Goals as goal
+use Rattle.cohere_core.proofs.fusion_queries.mergings_of_few.Goals as goal
 
 pub mergings_text-requires-clause-few : goal.mergings_text-requires-clause-few
 mergings_text-requires-clause-few g c = few_met c.args.constants.now c.args.most _ c.args.after _ c.begin.ensures.1 c.in-Ok.ensures.cut
@@ -15,17 +12,15 @@ mergings_text-requires-clause-few g c = few_met c.args.constants.now c.args.most
 pub returns-in-Ok : goal.returns-in-Ok
 returns-in-Ok g c =
     let K = c.args.constants.now in
-    let few : rank_of K ≤ MOST_SET_RANK = ⊎_elim (λ many. let e = sym c.in-Ok.is ∙ c.mergings.ensures.above many in absurd cc) (λ few. few) (cases_lt MOST_SET_RANK (rank_of K)) in
     IfOk-weaker c.mergings_text.result _ (λ text. AnswersMergings K c.args.most (string_in c.args.after) text.items)
-    (λ text same. mergings_text K c.args.most _ c.args.after _ text.items few (λ no. let e = sym c.in-Ok.is ∙ c.mergings.ensures.no_growth few no in absurd cc) c.begin.ensures.1 c.in-Ok.ensures.cut same)
+    (λ text same. mergings_text K c.args.most _ c.args.after _ text.items c.requires.few (λ no. let e = sym c.in-Ok.is ∙ c.mergings.ensures.no_growth c.requires.few no in absurd cc) c.begin.ensures.1 c.in-Ok.ensures.cut same)
     c.mergings_text.ensures
 
 pub returns-in-Err-NotGrowth : goal.returns-in-Err-NotGrowth
 returns-in-Err-NotGrowth g c =
     let K = c.args.constants.now in
     let is = c.in-Err-NotGrowth.is ∙ ap Err c.in-Err-NotGrowth.field-0-is in
-    let few : rank_of K ≤ MOST_SET_RANK = ⊎_elim (λ many. let e = sym is ∙ c.mergings.ensures.above many in absurd cc) (λ few. few) (cases_lt MOST_SET_RANK (rank_of K)) in
     IfOk-weaker c.refused_text-in-Err-NotGrowth.result (λ text. text.items ≡ refused_text_of (codes "NotGrowth"))
     (λ text. AnswersMergings K c.args.most (string_in c.args.after) text.items)
-    (λ text same. mergings_refused K c.args.most c.args.after text.items few (c.mergings.ensures.not_growth is) same)
+    (λ text same. mergings_refused K c.args.most c.args.after text.items c.requires.few (c.mergings.ensures.not_growth is) same)
     c.refused_text-in-Err-NotGrowth.ensures

@@ -11,7 +11,17 @@ import os
 import re
 from typing import Dict, Optional
 
-__all__ = ["REFUSED", "RELATION", "SCRIPT", "TRACE", "relation_hint", "row_of", "script_hint"]
+__all__ = [
+    "CELL_TRACE",
+    "QUESTION",
+    "REFUSED",
+    "RELATION",
+    "SCRIPT",
+    "TRACE",
+    "relation_hint",
+    "row_of",
+    "script_hint",
+]
 
 RELATION: Dict[str, str] = {
     "BadByte": "this is no character of the format: graph6 and digraph6 have '?' to '~', rows of a matrix digits "
@@ -77,6 +87,38 @@ TRACE: Dict[str, str] = {
     "IdleStep": "a step splits its class, or it is left out",
     "NotCoherent": "the steps end too early: the last partition is not coherent",
     "WrongClosure": "the claimed matrix is not this partition, with its classes numbered as they are first met",
+}
+
+# Of a question beside scripts that is refused: ring, cells, table and lattice.
+QUESTION: Dict[str, str] = {
+    "NotGroup": "the relation is no table of products with the unit 0: the number at (x, y) is that of the product x y",
+    "ColourCount": "ring takes one colour for each element",
+    "ColourRange": "colours are 0 to 1,048,575",
+    "BadSet": "cells takes colours of pairs of the relation as it is read: 1 for the edges of a graph",
+    "RankAbove": "this is for at most 16 classes: merge some first (fuse)",
+    "TooManyFusions": "a lattice has at most 300 fusions: mergings lists more of them, in pages",
+    "PlaceRange": "there is no such fusion: they are numbered from 0, and lattice without places lists them",
+    "FirstC": "the first number after the b is c_1, and that is 1",
+    "Parts": "b_i and c_i are together more than b_0",
+    "Valency": "no graph has this array: how many points are at distance i would be no whole number",
+    "TooManyPoints": "a table has at most 256 points",
+    "Negative": "no graph has this array: an intersection number would be below 0",
+    "Division": "no graph has this array: an intersection number would be no whole number",
+}
+
+# Of a trace of cells that is none, or is refused.
+CELL_TRACE: Dict[str, str] = {
+    "Head": "a trace of cells begins with 'cells 1'",
+    "Points": "the second line is 'points N'",
+    "Row": "a row of N numbers is due here: 0 and 1 for arcs, and after the line 'cells' the cell of each point",
+    "Body": "a step 'S C Z' or the line 'cells' is due here: the trace was cut, or a line of it was changed",
+    "End": "'end' is due here: the trace was cut",
+    "Extra": "nothing is due after 'end': cut what stands after it off",
+    "TooLong": "a trace of cells has at most 1,048,576 bytes",
+    "NoSuchCell": "a step names a cell that there is not yet",
+    "IdleStep": "a step parts its cell, or it is left out",
+    "NotEquitable": "the steps end too early: the last partition is not equitable",
+    "WrongCells": "the claimed cells are not this partition, numbered as they are first met from point 0 on",
 }
 
 # Words with which a line of a script begins.

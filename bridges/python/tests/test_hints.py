@@ -16,14 +16,14 @@ def words_of_formats():
     refused = text[text.index("### Refused lines") : text.index("## Traces")]
     rest = text.replace(refused, "")
     first = re.findall(r"^\| `([A-Z][A-Za-z]+)` \|", rest, re.M)
-    second = re.findall(r"^\| (?:a step|`stage`[^|]*|`closure`) \| `([A-Z][A-Za-z]+)` \|", rest, re.M)
+    second = re.findall(r"^\| (?:a step|`stage`[^|]*|`closure`|`cells`) \| `([A-Z][A-Za-z]+)` \|", rest, re.M)
     # (these two stand beside the tables)
     return {*first, *second, *re.findall("`([A-Z][a-z]+[A-Z][A-Za-z]+)`", refused), "NoLine", "TooLong"}
 
 
 class Words(unittest.TestCase):
     def test_each_word_has_a_hint(self):
-        hinted = {*hints.RELATION, *hints.SCRIPT, *hints.REFUSED, *hints.TRACE}
+        hinted = {*hints.RELATION, *hints.SCRIPT, *hints.REFUSED, *hints.TRACE, *hints.QUESTION, *hints.CELL_TRACE}
         self.assertEqual(hinted, words_of_formats())
 
     def test_the_manual_page_has_each_word(self):

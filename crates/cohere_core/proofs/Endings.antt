@@ -118,9 +118,9 @@ whole_says _ says whole = absurd whole
 
 pub whole : (files : Option Files) (task : Task) (status : Status) (rose failed : Type 0) (old new : Option (List ℕ)) (says : List ℕ → Type 0) → SaysWhole status → MayAnswer task status
     → IfTold task files (λ given. HasWhole given task status old new) → IsEnding files task status rose failed old new says
-whole files task statuses.Done rose failed old new says whole may told = record {
+whole files task statuses.Done rose failed old new says final may told = record {
   output = told_follows task files (λ given. HasWhole given task statuses.Done old new) (λ given. AddsAfter given task statuses.Done old new)
-      (λ given h. whole_adds given task statuses.Done old new whole h) told;
+      (λ given h. whole_adds given task statuses.Done old new final h) told;
   line = tt;
   error_line = tt;
   may_answer = may;
@@ -130,9 +130,9 @@ whole files task statuses.Done rose failed old new says whole may told = record 
   complete = λ calm still. told_follows task files (λ given. HasWhole given task statuses.Done old new) (λ given. IsDecided given task statuses.Done)
       (λ given h. whole_decides given task statuses.Done old new h) told;
 }
-whole files task statuses.CheckedNo rose failed old new says whole may told = record {
+whole files task statuses.CheckedNo rose failed old new says final may told = record {
   output = told_follows task files (λ given. HasWhole given task statuses.CheckedNo old new) (λ given. AddsAfter given task statuses.CheckedNo old new)
-      (λ given h. whole_adds given task statuses.CheckedNo old new whole h) told;
+      (λ given h. whole_adds given task statuses.CheckedNo old new final h) told;
   line = tt;
   error_line = tt;
   may_answer = may;
@@ -142,7 +142,7 @@ whole files task statuses.CheckedNo rose failed old new says whole may told = re
   complete = λ calm still. told_follows task files (λ given. HasWhole given task statuses.CheckedNo old new) (λ given. IsDecided given task statuses.CheckedNo)
       (λ given h. whole_decides given task statuses.CheckedNo old new h) told;
 }
-whole files task _ rose failed old new says whole may told = absurd whole
+whole files task _ rose failed old new says final may told = absurd final
 
 -- ---- a fault came before
 

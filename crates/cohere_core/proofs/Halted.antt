@@ -49,18 +49,18 @@ pub halted_bad : (files : Option Files) (task : Task) (name : List ℕ) (why : U
     → FirstBadIsText files task
 halted_bad None task name why rose h e = tt
 halted_bad (Some files) task name (Bad Missing) rose h e = absurd cc
-halted_bad (Some files) task name (Bad TooLong) rose h e = (h.need, TooLong, λ m. cc, h.reached, h.cause.0)
-halted_bad (Some files) task name (Bad (Relation what at)) rose h e = (h.need, Relation what at, λ m. cc, h.reached, h.cause.0)
-halted_bad (Some files) task name (Bad (Script line what)) rose h e = (h.need, Script line what, λ m. cc, h.reached, h.cause.0)
-halted_bad (Some files) task name (Bad (Trace line what)) rose h e = (h.need, Trace line what, λ m. cc, h.reached, h.cause.0)
-halted_bad (Some files) task name (Bad (CellTrace line what)) rose h e = (h.need, CellTrace line what, λ m. cc, h.reached, h.cause.0)
+halted_bad (Some files) task name (Bad TooLong) rose h e = (h.need, TooLong, λ m. cc, (h.reached, h.cause.0))
+halted_bad (Some files) task name (Bad (Relation what at)) rose h e = (h.need, Relation what at, λ m. cc, (h.reached, h.cause.0))
+halted_bad (Some files) task name (Bad (Script line what)) rose h e = (h.need, Script line what, λ m. cc, (h.reached, h.cause.0))
+halted_bad (Some files) task name (Bad (Trace line what)) rose h e = (h.need, Trace line what, λ m. cc, (h.reached, h.cause.0))
+halted_bad (Some files) task name (Bad (CellTrace line what)) rose h e = (h.need, CellTrace line what, λ m. cc, (h.reached, h.cause.0))
 halted_bad (Some files) task name StoreFailed rose h e = absurd cc
 halted_bad (Some files) task name NoMemory rose h e = absurd cc
 
 -- where the store failed, its count rose, or the first bad file is not there
 first_is_missing : (files : Option Files) (task : Task) (name : List ℕ) (rose : Type 0) (h : Halts files task name (Bad Missing) rose) → IsSome files → FirstBadIsMissing files task
-first_is_missing None task name rose h told = told
-first_is_missing (Some files) task name rose h told = (h.need, h.reached, h.cause.0)
+first_is_missing None task name rose h told = cc
+first_is_missing (Some files) task name rose h told = (h.need, (h.reached, h.cause.0))
 
 pub halted_store : (files : Option Files) (task : Task) (name : List ℕ) (why : Unread) (rose : Type 0) → Halts files task name why rose → halt_status why ≡ statuses.StoreFailed
     → rose ⊎ FirstBadIsMissing files task

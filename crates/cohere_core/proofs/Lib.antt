@@ -18,3 +18,4 @@ mod AskOutputs
 mod FreeOutputs
 mod DemoClaims
 mod DemoOutputs
+mod TaskOutputs

@@ -109,7 +109,7 @@ Tells h (Trace version) t = OfConfiguration h (λ K. TellsTrace version h K t)
 Tells h (Write form set) t = OfConfiguration h (λ K. WritesGraph K form set t)
 Tells h _ t = ⊥
 
--- no line asks for more fusions than one line may
+-- each line keeps its limit: of the fusions that it asks for, or of the version of its trace
 abbrev pub KeepLimits : List Line → Type 0
 KeepLimits lines = All (λ line. KeepsLimit line.act) lines
 

@@ -1,5 +1,6 @@
 -- How a task ends.
 use Rattle.std.specs.Prelude.{◌≡◌, ◌⊎◌, ℕ, List, Option}
+use Rattle.scheme_io.specs.Count.{Rose}
 use Rattle.scheme_io.specs.Files.{Files}
 use Rattle.cohere_inputs.specs.declared.faults.Unread.{Unread}
 use Rattle.cohere_inputs.specs.declared.faults.Unread.TheVariants.{Bad}
@@ -34,6 +35,6 @@ pub record IsEnding (files : Option Files) (task : Task) (status : Status) (rose
   pub sink_failed : status ≡ SinkFailed → failed
   pub complete : (rose → ⊥) → (failed → ⊥) → IsStatusWithoutFaults task status files
 
--- The same for a task for which no file is loaded: whatever the store tells, and though its count of faults did not rise.
+-- The same for a task for which no file is loaded: whatever the store tells, and whatever its counts of faults.
 abbrev pub IsEndingWithoutFiles : Task → Status → Type 0 → Option (List ℕ) → Option (List ℕ) → (List ℕ → Type 0) → Type 0
-IsEndingWithoutFiles task status failed old new says = (files : Option Files) (rose : Type 0) → IsEnding files task status rose failed old new says
+IsEndingWithoutFiles task status failed old new says = (files : Option Files) (before now : ℕ) → IsEnding files task status (Rose before now) failed old new says

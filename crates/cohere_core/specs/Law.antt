@@ -1,4 +1,4 @@
--- What holds of the answers of every script, and of every demonstration.
+-- What holds of the outputs of every task, of the answers of every script, and of every demonstration.
 use Rattle.std.specs.Prelude.{◌≡◌, ◌≢◌, ◌⊎◌, ◌≤◌, ℕ, List, All, length, Some}
 use Rattle.std.specs.FinMap.{get}
 use Rattle.scheme_io.specs.Files.{Files}
@@ -11,15 +11,21 @@ use Rattle.trace_text.specs.ClaimTexts.{IsTraceText}
 use Rattle.recolour_bench.specs.History.{History, IsHistory, AreAlike, present}
 use Rattle.script_text.specs.declared.acts.Act.TheVariants.{Trace}
 use Rattle.script_text.specs.declared.acts.Line.{Line}
-use Rattle.cohere_inputs.specs.Task.{Check}
+use Rattle.cohere_inputs.specs.Bad.{NoneIsBad}
+use Rattle.cohere_inputs.specs.Task.{Check, Task}
 use Rattle.cohere_core.specs.declared.status.Status.{Status}
 use Rattle.cohere_core.specs.declared.status.Status.TheVariants.{Done, NoMemory}
 use Rattle.cohere_core.specs.Answer.{Runs, Tells}
 use Rattle.cohere_core.specs.DemoForm.{DemoOutput}
+use Rattle.cohere_core.specs.Forms.{IsSomeOutputOf}
 use Rattle.cohere_core.specs.Output.{ScriptOutput}
 use Rattle.cohere_core.specs.Products.{AreProducts}
 use Rattle.cohere_core.specs.Run.{IsStatusWithoutFaults}
 use Rattle.cohere_core.specs.Agreement.{AgreeLineByLine}
+
+-- where no file is bad, each task has an output
+abbrev pub TaskHasOutput : Type 0
+TaskHasOutput = (task : Task) (files : Files) → NoneIsBad files task → (t : List ℕ) × IsSomeOutputOf files task t
 
 -- a script has an output over every colouring that starts a history and every list of its products
 abbrev pub OutputExists : Type 0

@@ -67,11 +67,11 @@ fn left_by<'a>(products: &'a [Colouring], act: &Act) -> &'a [Colouring]
 /// A line that is refused is answered by the name of the refusal, and changes nothing. After a
 /// fault the bench stands before the line that was not answered, or after it (after it where the
 /// line is an undo or a redo); what was written is the answers of the lines before it, and where
-/// the sink failed a front of its answer. A further session goes on from there: the lines that are
+/// the sink failed a proper front of its answer. A further session goes on from there: the lines that are
 /// left have answers from every history (`laws::outputs`).
 ///
 /// Lines that list sets or strings begin the visitor, and read from it what it met. What it holds
-/// after a fault is open. A line may ask for 1 to 10000 fusions.
+/// afterwards is open. A line may ask for 1 to 10000 fusions, and for a trace of version 1 or 2.
 pub fn session<O: Sink>(
     alloc: Global,
     bench: &mut Bench,

@@ -99,8 +99,9 @@ fn move_answer(alloc: Global, bench: &mut Bench, step: Move<'_>) -> Result<Vec<u
     }
 }
 
-/// Carries out the act and makes its answer; where it takes a product, it takes the first. Where memory is wanting, the bench stands before the
-/// act or after it; after it where the act is an undo or a redo, which takes none.
+/// Carries out the act and makes its answer; where it takes a product, it takes the first. Where
+/// memory is wanting, the bench stands before the act or after it; after it where the act is an undo
+/// or a redo, which takes none.
 pub(crate) fn answer(
     alloc: Global,
     bench: &mut Bench,

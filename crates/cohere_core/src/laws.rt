@@ -1,6 +1,12 @@
 //! Laws over the definitions alone. Each is the contract of a function that does nothing.
 
-ghost use Rattle.cohere_core.specs.Law.{OutputExists, RunExists, OutputsAgree, RunsAgree, OutputIsUnique, RunIsUnique, TraceShowsClosure, TraceIsChecked, DemoExists, DemoIsUnique};
+ghost use Rattle.cohere_core.specs.Law.{TaskHasOutput, OutputExists, RunExists, OutputsAgree, RunsAgree, OutputIsUnique, RunIsUnique, TraceShowsClosure, TraceIsChecked, DemoExists, DemoIsUnique};
+
+/// Each task has an output where no file that is loaded for it is bad. So what holds of the output of
+/// `run` says something of every form of words.
+pub fn tasks()
+    ensures { TaskHasOutput }
+{}
 
 /// Every script has an output over every relation, and its lines lead on from every history, as
 /// from the one where a session stopped. Its outputs differ in the steps of traces of version 1 alone:

@@ -10,8 +10,9 @@
 //! * `answering`: `session`, the answers of a script line by line; `answers`: one of them, and
 //!   `queries`: one that changes nothing; `subset_queries`: one about closed subsets, and
 //!   `fusion_queries`: one about fusions.
-//! * `laws`: every script has an output over every relation, and its outputs differ in the steps of
-//!   traces alone; a check accepts each trace that is shown; each demonstration has one output.
+//! * `laws`: every task has an output where no file is bad, and every script over every relation,
+//!   whose outputs differ in the steps of traces of version 1 alone; a check accepts each trace that
+//!   is shown; each demonstration has one output.
 //!
 //! The definitions stand in `specs/`: `Run` says what holds after each status, `Forms` what each form
 //! of words answers (`RunForm`, `CheckForm`, `DemoForm`, `AskForms`), and `Output` and `Answer` what a

@@ -31,10 +31,11 @@ use visitors::Visitor;
 /// After `check`, `Done` says that the file is a trace of a claim that is accepted, and so that the
 /// claimed colouring is the closure of the colours of its last stage (`trace_text::laws::l3`);
 /// `CheckedNo` that it is a trace of a claim that is not, and that the line of its first bad line was
-/// written. The claim is judged by `trace_check`, which closes nothing.
+/// written. The claim is judged by `trace_check`, which searches for nothing. After `check-cells` it is
+/// the same of a claim of cells (`equitable::laws::l11`).
 ///
-/// The visitor meets the entries of the lists that a script asks for, one list after the other. It is
-/// dropped at the end.
+/// The visitor meets the entries of the lists that a script or `lattice` asks for, one list after the
+/// other. It is dropped at the end.
 pub fn run<S: Store, O: Sink, E: Sink>(
     alloc: Global,
     words: &[String],

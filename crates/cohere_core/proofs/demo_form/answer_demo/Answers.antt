@@ -15,7 +15,7 @@ returns-in-Ok-clause-ending g c =
     let number = c.args.number in
     let old = g.O.Sink.written c.args.out.now in
     let new = g.O.Sink.written c.demonstrate.new.out in
-    λ files rose. whole files (Demo number) Done rose _ old new _ tt tt (λ given. demo_whole given number old new c.in-Ok.ensures.all)
+    λ files before now. whole files (Demo number) Done _ _ old new _ tt tt (λ given. demo_whole given number old new c.in-Ok.ensures.all)
 
 pub returns-in-Err-clause-ending : goal.returns-in-Err-clause-ending
 returns-in-Err-clause-ending g c =
@@ -27,5 +27,5 @@ returns-in-Err-clause-ending g c =
     let says = AddsLine g.E.Sink.written g.E.Sink.faults c.args.err.now c.status_of_fault.new.err in
     let line = subst (λ (s : Status). LineAfter s says) c.status_of_fault.ensures.status c.status_of_fault.ensures.line in
     subst (λ (s : Status). IsEndingWithoutFiles (Demo number) s failed old new says) (sym c.status_of_fault.ensures.status)
-    (λ files rose. cut_off files (Demo number) fault rose failed old new says (λ given. demo_front given number fault old new c.in-Err.ensures.front)
+    (λ files before now. cut_off files (Demo number) fault (Rose before now) failed old new says (λ given. demo_front given number fault old new c.in-Err.ensures.front)
     (λ e. c.in-Err.ensures.failed (ap Err e)) line)

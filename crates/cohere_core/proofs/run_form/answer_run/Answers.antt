@@ -9,7 +9,7 @@ use Rattle.cohere_inputs.specs.Task.{Run}
 use Rattle.cohere_core.specs.declared.status.Status.{Status}
 use Rattle.cohere_core.specs.declared.status.Status.TheVariants.{Done}
 use Rattle.cohere_core.specs.Added.{AddsText, AddsUntil}
-use Rattle.cohere_core.specs.Ending.{IsEnding}
+use Rattle.cohere_core.specs.Ending.{IsEnding, fault_status}
 use Rattle.cohere_core.specs.Output.{ScriptOutput}
 use Rattle.cohere_core.specs.Run.{LineAfter}
 use Rattle.cohere_core.proofs.Endings.{cut_off, halted, whole}
@@ -56,8 +56,10 @@ returns-clause-ending g c =
     let rose = Rose (g.S.Store.faults c.args.store.now) (g.S.Store.faults c.run_inputs.new.store) in
     let failed = Rose (g.O.Sink.faults c.args.out.now) (g.O.Sink.faults c.answer_script.new.out) in
     let says = AddsLine g.E.Sink.written g.E.Sink.faults c.args.err.now c.status_of_fault.new.err in
+    let said = AddsLine g.E.Sink.written g.E.Sink.faults c.run_inputs.new.err c.status_of_fault.new.err in
+    let line = subst (λ (s : Status). LineAfter s said) c.status_of_fault.ensures.status c.status_of_fault.ensures.line in
     let front = over_read (λ products lines. AddsUntil fault (ScriptOutput inputs.relation products lines) old new) inputs.products.items c.deref-2.result.now inputs.lines.items c.deref.result.now
     c.deref-2.ensures.value c.deref.ensures.value c.in-Err-answer_script.ensures.front in
     subst (λ (s : Status). IsEnding files (Run run) s rose failed old new says) (sym c.status_of_fault.ensures.status)
     (cut_off files (Run run) fault rose failed old new says (run_front files run inputs.relation inputs.lines.items inputs.products.items fault old new c.in-Ok.ensures.read front) (λ e. c.in-Err-answer_script.ensures.failed (ap Err e))
-    (subst (λ (s : Status). LineAfter s says) c.status_of_fault.ensures.status c.status_of_fault.ensures.line))
+    (subst (λ err. LineAfter (fault_status fault) (AddsLine g.E.Sink.written g.E.Sink.faults err c.status_of_fault.new.err)) c.in-Ok.ensures.quiet line))

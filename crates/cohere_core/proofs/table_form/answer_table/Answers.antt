@@ -16,7 +16,7 @@ returns-in-Ok-clause-ending g c =
     let words = asked_table c.args.words in
     let old = g.O.Sink.written c.args.out.now in
     let new = g.O.Sink.written c.write_table.new.out in
-    λ files rose. whole files (Table words) Done rose _ old new _ tt tt (λ given. table_whole given words old new c.in-Ok.ensures.all)
+    λ files before now. whole files (Table words) Done _ _ old new _ tt tt (λ given. table_whole given words old new c.in-Ok.ensures.all)
 
 pub returns-in-Err-clause-ending : goal.returns-in-Err-clause-ending
 returns-in-Err-clause-ending g c =
@@ -28,5 +28,5 @@ returns-in-Err-clause-ending g c =
     let says = AddsLine g.E.Sink.written g.E.Sink.faults c.args.err.now c.status_of_fault.new.err in
     let line = subst (λ (s : Status). LineAfter s says) c.status_of_fault.ensures.status c.status_of_fault.ensures.line in
     subst (λ (s : Status). IsEndingWithoutFiles (Table words) s failed old new says) (sym c.status_of_fault.ensures.status)
-    (λ files rose. cut_off files (Table words) fault rose failed old new says (λ given. table_front given words fault old new c.in-Err.ensures.front)
+    (λ files before now. cut_off files (Table words) fault (Rose before now) failed old new says (λ given. table_front given words fault old new c.in-Err.ensures.front)
     (λ e. c.in-Err.ensures.failed (ap Err e)) line)

@@ -1,5 +1,5 @@
 -- The acts that only ask, and the others.
-use Rattle.std.proofs.Common.{◌≡◌, ◌⊎◌, ℕ, true, List, [], ◌∷◌, Option, Some, None, ⊎_elim, refl, sym, subst, inl, inr, arith}
+use Rattle.std.proofs.Common.{◌≡◌, true, List, [], ◌∷◌, Option, Some, None, ⊎_elim, refl, sym, subst, inl, inr, arith}
 use Rattle.std.specs.Prelude.{All, Result, Ok, Err, OnErr, MatchOption, option_map, slice_get}
 use Rattle.std.proofs.lemmas.Option.{same_Some}
 use Rattle.pair_colours.specs.Colouring.{PairColouring, IsRawColouring}

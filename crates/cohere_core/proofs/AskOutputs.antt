@@ -1,5 +1,5 @@
 -- The output of a question about a relation.
-use Rattle.std.proofs.Common.{◌≡◌, ℕ, List, Option, Some, None, refl, subst, inl}
+use Rattle.std.proofs.Common.{ℕ, List, Option, Some, None, refl, subst, inl}
 use Rattle.std.specs.Prelude.{IfSome}
 use Rattle.std.specs.List.{AllByRecursion}
 use Rattle.scheme_io.specs.Files.{Files}

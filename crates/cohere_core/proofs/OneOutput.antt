@@ -5,7 +5,7 @@ use Rattle.std.specs.Prelude.{◌≢◌, ◌↔◌, IsTrue, MatchOption}
 use Rattle.pair_colours.specs.Colouring.{PairColouring}
 use Rattle.pair_colours.specs.Closure.{IsClosureOf}
 use Rattle.pair_colours.specs.Naming.{rank_of}
-use Rattle.pair_colours.proofs.LawProofs.{named_closure_is_unique, closure_is_raw}
+use Rattle.pair_colours.proofs.LawProofs.{named_closure_is_unique}
 use Rattle.struct_consts.specs.ClassData.{IsConfiguration}
 use Rattle.recolour_bench.specs.EntryChains.{claim_by, round_claim_by}
 use Rattle.recolour_bench.specs.History.{History, IsHistory, AreAlike, present, present_chain}

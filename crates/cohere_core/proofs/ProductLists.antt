@@ -1,5 +1,5 @@
 -- The products of a script: which are left, and that there is one for each line that takes one.
-use Rattle.std.proofs.Common.{◌≡◌, ◌<◌, ◌+◌, ℕ, Bool, true, false, cond, List, [], ◌∷◌, ◌++◌, length, get_or, take, drop, Option, Some, refl, sym, ap, subst, ◌∙◌, arith}
+use Rattle.std.proofs.Common.{◌≡◌, ◌<◌, ◌+◌, ℕ, Bool, true, false, cond, List, [], ◌∷◌, ◌++◌, length, get_or, take, drop, Some, refl, sym, ap, subst, ◌∙◌, arith}
 use Rattle.std.specs.Prelude.{All, slice_get, if◌then◌else◌}
 use Rattle.std.specs.List.{AllZip, cons_option}
 use Rattle.std.proofs.lemmas.List.{take_more, drop_more, take-append-drop, length-drop}

@@ -12,7 +12,6 @@ use Rattle.cohere_core.specs.declared.answering.SessionFault.{SessionFault}
 use Rattle.cohere_core.specs.declared.status.Status.TheVariants.{Done}
 use Rattle.cohere_core.specs.Added.{AddsText, AddsUntil}
 use Rattle.cohere_core.specs.Output.{ScriptOutput}
-use Rattle.cohere_core.specs.RunForm.{RunOutput}
 use Rattle.cohere_core.proofs.Endings.{HasFront, HasOutputs, HasWhole}
 use Rattle.cohere_core.proofs.ProductLists.{files_are_products}
 use Rattle.cohere_core.proofs.Runs.{output_exists}

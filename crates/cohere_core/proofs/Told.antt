@@ -1,5 +1,5 @@
 -- What holds of the files that a store tells, by the form of the task.
-use Rattle.std.proofs.Common.{List, ℕ, Option, Some, None}
+use Rattle.std.proofs.Common.{Option, Some, None}
 use Rattle.std.specs.Prelude.{IfSome}
 use Rattle.scheme_io.specs.Files.{Files}
 use Rattle.cohere_inputs.specs.Task.{Task, Run, Check, Demo, Ask, CheckCells, Table}

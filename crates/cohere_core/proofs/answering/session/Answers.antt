@@ -1,4 +1,4 @@
-use Rattle.std.proofs.Common.{◌≡◌, ◌∙◌, List, get_or, take, arith, ap, sym, subst}
+use Rattle.std.proofs.Common.{◌∙◌, List, get_or, take, arith, ap, sym, subst}
 use Rattle.std.specs.Io.KnownBytes.{Appends}
 use Rattle.scheme_io.specs.Bytes.{AppendsPart}
 use Rattle.pair_colours.specs.Colouring.{PairColouring}

@@ -15,5 +15,5 @@ returns-in_ok-closed-in-Common g c =
     let i = c.in-Common.i in
     let j = c.in-Common.j in
     let told = IfOk-weaker c.common_answer.result (λ text. AnswersCommon K i j text.items) (λ text. AnswersQuestion C (Common i j) text.items)
-        (λ text answers. (K, c.in_ok-closed-in-Common.ensures.closure, answers)) c.common_answer.ensures in
+    (λ text answers. (K, c.in_ok-closed-in-Common.ensures.closure, answers)) c.common_answer.ensures in
     subst (λ (question : code.Question). IfOk c.common_answer.result (λ text. AnswersQuestion C (asked_question question) text.items)) (sym c.in-Common.is) told

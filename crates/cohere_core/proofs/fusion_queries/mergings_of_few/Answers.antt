@@ -20,7 +20,7 @@ pub returns-in-Err-NotGrowth : goal.returns-in-Err-NotGrowth
 returns-in-Err-NotGrowth g c =
     let K = c.args.constants.now in
     let is = c.in-Err-NotGrowth.is ∙ ap Err c.in-Err-NotGrowth.field-0-is in
-    IfOk-weaker c.refused_text-in-Err-NotGrowth.result (λ text. text.items ≡ refused_text_of (codes "NotGrowth"))
+    IfOk-weaker c.refused_text.result (λ text. text.items ≡ refused_text_of (codes "NotGrowth"))
     (λ text. AnswersMergings K c.args.most (string_in c.args.after) text.items)
     (λ text same. mergings_refused K c.args.most c.args.after text.items c.requires.few (c.mergings.ensures.not_growth is) same)
-    c.refused_text-in-Err-NotGrowth.ensures
+    c.refused_text.ensures

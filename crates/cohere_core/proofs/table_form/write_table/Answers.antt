@@ -1,11 +1,9 @@
-use Rattle.std.proofs.Common.{◌≡◌, List, ℕ, subst, refl, ap, sym, ◌∙◌}
-use Rattle.std.specs.Io.KnownBytes.{Appends}
-use Rattle.array_tables.specs.Kept.{FitsArray}
+use Rattle.std.proofs.Common.{refl}
 use Rattle.array_tables.specs.Parameters.{array_of}
 use Rattle.neighbour_answers.specs.TableAnswer.{table_answer_of}
-use Rattle.cohere_core.specs.declared.answering.SessionFault.TheVariants.{SinkFailed, NoMemory}
+use Rattle.cohere_core.specs.declared.answering.SessionFault.TheVariants.{NoMemory}
 use Rattle.cohere_core.specs.Added.{AddsUntil}
-use Rattle.cohere_core.proofs.Fronts.{nothing_until, part_until}
+use Rattle.cohere_core.proofs.Fronts.{nothing_until}
 use Rattle.cohere_core.proofs.Runs.{at_fault}
 use Rattle.cohere_core.proofs.table_form.write_table.Goals as goal
 

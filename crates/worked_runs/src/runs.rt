@@ -21,7 +21,7 @@ pub(crate) type Script<'a> = (&'a [u8], &'a [u8], &'a [u8]);
 
 /// The line that is said where words fit no form.
 pub(crate) const USAGE: &[u8] =
-    b"usage: cohere run RELATION SCRIPT [LINE] | cohere check TRACE | cohere demo NUMBER\n";
+    b"usage: cohere run RELATION SCRIPT [LINE] | cohere check TRACE | cohere demo NUMBER | cohere ring TABLE COLOUR... | cohere cells RELATION COLOUR... | cohere check-cells TRACE | cohere table D NUMBER... | cohere lattice RELATION [I J]\n";
 
 /// The words of a run over the files R and S.
 pub(crate) const RUN: [&str; 3] = ["run", "R", "S"];

@@ -8,8 +8,8 @@
 //!   it is not read.
 //! * `products`: the files by which the lines of a script multiply.
 //! * `saying`: the lines on standard error.
-//! * `laws`: of the files of a task none is bad, or one is the first bad one; and a trace within its
-//!   limit has few lines.
+//! * `laws`: of the files of a task none is bad, or one is the first bad one; which files a run needs;
+//!   that a trace within its limit has few lines; and the limits.
 //!
 //! The definitions stand in `specs/`: `Task` and `Words` say what the words ask for, `Needs` which
 //! files are loaded, `Texts` and `Bad` which of them are bad, `Unread` where loading stops, and

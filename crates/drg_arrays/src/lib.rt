@@ -8,7 +8,7 @@
 //! * `distances`: the distances of all pairs, and the first pair that has none.
 //! * `counts`: how many neighbours of a point are nearer, and how many farther.
 //! * `places`: the first place of each distance, and the first place whose counts differ from it.
-//! * `laws`: every graph has an answer, and only one.
+//! * `laws`: every graph has an answer, and only one; and every graph has a table of distances.
 //!
 //! The definitions stand in `specs/`. They speak of walks; the search speaks of levels.
 #![tactic(auto)]

@@ -19,9 +19,6 @@ pub fn pair_code(left: u32, right: u32) -> u64
     u64::from(left) * NUMBERS + u64::from(right)
 }
 
-// For how many numbers more there is room behind the codes of the sides of a pair.
-const SPARE: usize = 4;
-
 /// The two numbers of a code, left and right.
 pub fn code_pair(code: u64) -> (u32, u32)
     ensures code { code_of_pair result.0 result.1 ≡ code }
@@ -30,8 +27,7 @@ pub fn code_pair(code: u64) -> (u32, u32)
     ((code / NUMBERS) as u32, (code % NUMBERS) as u32)
 }
 
-/// The colours from x to z and from z to y as one number, for each point z. A few more numbers can be
-/// put behind them without more memory.
+/// The colours from x to z and from z to y as one number, for each point z.
 pub fn side_codes(
     alloc: Global,
     colouring: &Colouring,
@@ -43,7 +39,7 @@ pub fn side_codes(
     ensures codes { IfOk result (λ codes. codes.items ≡ side_codes colouring.now x y) }
     ensures within { IfOk result (λ _. FitsColouring colouring.now) }
 {
-    let mut codes = Vec::with_capacity(alloc, colouring.size() as usize + SPARE)?;
+    let mut codes = Vec::with_capacity(alloc, colouring.size() as usize)?;
     for z in 0..colouring.size() {
         codes.push(pair_code(colouring.get(x, z), colouring.get(z, y)))?;
     }

@@ -11,6 +11,7 @@ use visitors::Visitor;
 
 /// The answer that shows the string of a closed merging, on one line.
 pub fn close_text(alloc: Global, string: &[u32]) -> Result<Vec<u8>, NoMemory>
+    requires some { 1 ≤ length string.now }
     ensures { IfOk result (λ text. text.items ≡ close_text_of string.now) }
 {
     let mut text = Text::new(alloc);

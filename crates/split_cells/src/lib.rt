@@ -5,7 +5,7 @@
 //! * `faults`: whether a partition is coherent, or else by what it can be split.
 //! * `looks`, `comparing`, `turning`: steps for a search, which nothing is promised of; `sides`: the
 //!   rows of classes at a pair.
-//! * `codes`: short numbers of classes; `code_counts`: how often their sums come.
+//! * `codes`: short numbers of classes.
 //! * `steps`: steps with inner numbers, made on the pairs in classes.
 //! * `labels`: the numbers by which classes are shown, where they have other inner numbers.
 //! * `splitting`: the parts of a class, by the keys of its pairs.

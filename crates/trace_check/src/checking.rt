@@ -14,7 +14,7 @@ use trace_text::Claim;
 // The line on which the first stage begins.
 const FIRST_LINE: u32 = 3;
 
-// Decides whether a claim is accepted. In `last` stands where the last stage ended.
+// Decides whether a claim is accepted. `last` becomes where its last stage ends.
 fn check_after<'a>(
     alloc: Global,
     claim: &'a Claim,

@@ -7,8 +7,8 @@
 //! * `ending`: whether the last partition shows the claimed closure.
 //! * `checking`: `check`, over all of these.
 //!
-//! Nothing here closes a colouring: the checker stands on the definition of a step, and on an exact
-//! test of coherence. The definitions stand in `trace_text`.
+//! Nothing here closes a colouring: each step is carried out anew by its definition, and the end is
+//! tested for coherence. The definitions stand in `trace_text`.
 #![tactic(auto)]
 
 mod checking;

@@ -75,12 +75,11 @@ fn a_host_store_loads(rt: HostRuntime) -> Result<(), Fail> {
 
 #[test]
 fn a_host_sink_writes(rt: HostRuntime) -> Result<(), Fail> {
-    let mut bytes = Vec::new(rt.alloc());
-    let mut sink = HostSink::new(&mut bytes);
+    let mut sink = HostSink::new(Vec::new(rt.alloc()));
     put_all(&mut sink, b"some ")?;
     put_all(&mut sink, b"")?;
     put_all(&mut sink, b"bytes")?;
-    drop(sink);
+    let bytes = sink.into_writer();
     same_bytes(&rt, &bytes, b"some bytes");
     Ok(())
 }

@@ -42,8 +42,9 @@ pub(crate) fn fibre_step(pairs: &ClassedPairs, k: u32) -> Option<Triangle>
     requires class { k < pairs.now.parting.rank }
 {
     let members = pairs.parting.members(k);
-    let left = before(pairs, members[0]);
-    let right = behind(pairs, members[0]);
+    let first = members[0];
+    let left = before(pairs, first);
+    let right = behind(pairs, first);
     for p in members {
         if before(pairs, *p) != left {
             return Some(Triangle {

@@ -15,6 +15,7 @@ use crate::building::parted;
 use crate::classed_pairs::ClassedPairs;
 use crate::comparing::Comparison;
 use crate::faults::fault;
+use crate::fibres::fibre_step;
 use crate::labels::Labels;
 use crate::looks::likely_step;
 use crate::renumbering::renumbered;
@@ -226,8 +227,8 @@ impl Cells {
         self.shown_triangle(comparison.step(&self.pairs, inner)?)
     }
 
-    /// A step that parts class k by a class that has some of its transposed pairs. It serves a
-    /// search: nothing is promised of it.
+    /// A step that parts class k by the class of its first transposed pair, if that has not all of
+    /// them. It serves a search: nothing is promised of it.
     pub fn flip_step(&self, k: u32) -> Option<Step>
         requires { k < rank_of self.now }
         ensures { IfSome result (HasStep 1) }
@@ -238,6 +239,16 @@ impl Cells {
             class: k,
             other: *self.labels.outer.get(other as usize)?,
         })
+    }
+
+    /// A step that parts class k by a fibre that its first pair leads from or to, if another pair
+    /// leads from or to another. It serves a search: nothing is promised of it.
+    pub fn fibre_step(&self, k: u32) -> Option<Step>
+        requires { k < rank_of self.now }
+        ensures { IfSome result (HasStep 1) }
+    {
+        let inner = self.labels.inner[k as usize];
+        self.shown_triangle(fibre_step(&self.pairs, inner)?)
     }
 
     /// The class of a transposed pair of class k. It serves a search: nothing is promised of it.

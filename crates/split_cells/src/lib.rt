@@ -3,8 +3,10 @@
 //!
 //! * `cells`: `Cells`, a partition that carries out steps.
 //! * `faults`: whether a partition is coherent, or else by what it can be split.
-//! * `looks`, `comparing`, `turning`: steps for a search, which nothing is promised of; `sides`: the
-//!   rows of classes at a pair.
+//! * `turning`, `fibres`, `looks`, `comparing`: steps for a search, which nothing is promised of, from
+//!   the cheapest and most certain on: by the classes of transposed pairs, by the fibres of the points
+//!   of pairs, by a look at a few points, and by comparing pairs; `sides`: the rows of classes at a
+//!   pair.
 //! * `codes`: short numbers of classes.
 //! * `steps`: steps with inner numbers, made on the pairs in classes.
 //! * `labels`: the numbers by which classes are shown, where they have other inner numbers.
@@ -27,6 +29,7 @@ mod classed_pairs;
 mod codes;
 mod comparing;
 mod faults;
+mod fibres;
 mod flipping;
 mod gathering;
 mod labels;

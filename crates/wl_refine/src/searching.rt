@@ -26,7 +26,7 @@ fn tried(way: &mut Way, step: Option<Step>) -> Result<bool, NoMemory>
     }
 }
 
-// Splits class k by a class that has some of its transposed pairs.
+// Splits class k by the class of its first transposed pair, if that has not all of them.
 #[tactic(auto, using(crate::proofs::Leading::leads_on_after, crate::proofs::Leading::leads_on_here))]
 fn flip(way: &mut Way, k: u32) -> Result<bool, NoMemory>
     ensures { OnOk result (LeadsOn way.old way.new) }
@@ -38,31 +38,70 @@ fn flip(way: &mut Way, k: u32) -> Result<bool, NoMemory>
     tried(way, step)
 }
 
-// Splits class k until the transposed pairs of what is left of it are in one class.
+// Splits class k until the transposed pairs of each part are in one class. The part of a split that
+// keeps the number is such a part, and the other one has the newest number.
 #[tactic(auto, using(crate::proofs::Leading::leads_on_after, crate::proofs::Leading::leads_on_here))]
 fn settle(way: &mut Way, k: u32) -> Result<(), NoMemory>
     ensures { OnOk result (LeadsOn way.old way.new) }
 {
+    let mut rest = k;
     for _ in 0..u32::MAX {
-        let split = flip(way, k)?;
+        let split = flip(way, rest)?;
         if !split {
             break;
         }
+        rest = way.cells().rank().saturating_sub(1);
     }
     Ok(())
 }
 
-// Splits all classes by the diagonal and by their transposed pairs.
+// Splits all classes by the diagonal.
+#[tactic(auto, using(crate::proofs::Leading::leads_on_after, crate::proofs::Leading::leads_on_here))]
+fn part_diagonal(way: &mut Way) -> Result<(), NoMemory>
+    ensures { OnOk result (LeadsOn way.old way.new) }
+{
+    for class in 0..way.cells().rank() {
+        tried(way, Some(Step::Diag { class }))?;
+    }
+    Ok(())
+}
+
+// Splits all classes by the diagonal, and then by their transposed pairs. Both are certain, and the
+// diagonal is asked only of the classes that stood at the start: no class that a later step makes
+// has pairs on and off it.
 #[tactic(auto, using(crate::proofs::Leading::leads_on_after, crate::proofs::Leading::leads_on_here))]
 pub(crate) fn settle_all(way: &mut Way) -> Result<(), NoMemory>
     ensures { OnOk result (LeadsOn way.old way.new) }
 {
-    for class in 0..u32::MAX {
-        if class >= way.cells().rank() {
+    part_diagonal(way)?;
+    for class in 0..way.cells().rank() {
+        settle(way, class)?;
+    }
+    Ok(())
+}
+
+// Splits class k by a fibre that its first pair leads from or to, if not all of its pairs do.
+#[tactic(auto, using(crate::proofs::Leading::leads_on_after, crate::proofs::Leading::leads_on_here))]
+fn cut(way: &mut Way, k: u32) -> Result<bool, NoMemory>
+    ensures { OnOk result (LeadsOn way.old way.new) }
+{
+    if k >= way.cells().rank() {
+        return Ok(false);
+    }
+    let step = way.cells().fibre_step(k);
+    tried(way, step)
+}
+
+// Splits class k until what is left of it leads from one fibre to one.
+#[tactic(auto, using(crate::proofs::Leading::leads_on_after, crate::proofs::Leading::leads_on_here))]
+fn part_by_fibres(way: &mut Way, k: u32) -> Result<(), NoMemory>
+    ensures { OnOk result (LeadsOn way.old way.new) }
+{
+    for _ in 0..u32::MAX {
+        let split = cut(way, k)?;
+        if !split {
             break;
         }
-        tried(way, Some(Step::Diag { class }))?;
-        settle(way, class)?;
     }
     Ok(())
 }
@@ -152,7 +191,8 @@ impl Search {
         if turned < k { None } else { Some(turned) }
     }
 
-    // Refines class k, and splits its transposed class as far as its parts ask it.
+    // Refines class k, and splits its transposed class until each part has the transposed pairs of one
+    // part of class k.
     #[tactic(auto, using(crate::proofs::Leading::leads_on_after, crate::proofs::Leading::leads_on_here))]
     fn visit(&mut self, way: &mut Way, k: u32) -> Result<(), NoMemory>
         ensures { OnOk result (LeadsOn way.old way.new) }
@@ -161,9 +201,9 @@ impl Search {
         let Some(turned) = Search::partner(way, k) else {
             return Ok(());
         };
+        part_by_fibres(way, k)?;
         self.refine(way, k)?;
         settle(way, turned)?;
-        settle(way, k)?;
         Ok(())
     }
 

@@ -151,7 +151,7 @@ class Partition:
         return self.part(places, [bin(left[it // points] & right[it % points]).count("1") for it in places])
 
     def first_alike(self):
-        """Returns for each pair the first that is alike: on the diagonal or off it too, of one class, also turned round,
+        """Returns for each pair the first that is alike: on the diagonal or off it too, in one class, turned round too,
         with as many z for all classes of (x, z) and (z, y). A partition is coherent where each class is all alike."""
         found, firsts, n, rank, classes = {}, [], self.points, len(self.members), self.classes
         table = numpy and numpy.array(classes, "u4").reshape(n, n)

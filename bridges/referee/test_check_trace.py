@@ -3,10 +3,11 @@
 
     test_check_trace.py [COUNT [SEED]]
 
-Each is to have the same line on standard output, the same status and the same line on standard error as
-'cohere check' has, and with a relation as 'cohere certify' has; where the program has no such form, as its answers
-to 'check' and 'run' tell. Half of them are judged without numpy. All words of both formats are to be met. The program
-is what COHERE names, else bin/cohere of this checkout. The last line is 'referee: N judged alike'.
+COUNT are made, after those of two tables. Each is to have the same line on standard output, the same status and the
+same line on standard error as 'cohere check' has, and with a relation as 'cohere certify' has; where the program has
+no such form, as its answers to 'check' and 'run' tell. Half of them are judged without numpy. All words of both
+formats are met. The program is what COHERE names, else bin/cohere of this checkout. The last line begins with
+'referee: N judged alike', or else 'FAILED' comes before.
 """
 
 import collections
@@ -33,6 +34,31 @@ WORDS = """accepted OtherRelation StageNotRefining NoSuchClass IdleStep NotCoher
     Head Points Stage Row Body End Extra
     NoLine WrongLength BadByte NoPoints TooManyPoints SizeForm PadBits
     MatrixHead MatrixCount MatrixNumber ColourTooLarge""".split()
+
+
+# A trace, and what makes each word of it: a text in it, and what stands in its place.
+TRACE = (TOP / "examples/one_colour_2.trace").read_bytes()
+CHANGES = [
+    (b"", b""),
+    (b"D 0", b"D 0\nstage\n8 8\n8 8"),
+    (b"D 0", b"stage\n1 2\n2 1\nstage\n3 3\n3 3"),
+    *((b"D 0", it) for it in (b"D 1", b"F 0 0", b"T 0 0 0", b"D 65536", b"D 00", b"R", b"D 0 0")),
+    (b"D 0\n", b""),
+    *((b"1 0", it) for it in (b"1 1", b"1  0", b"1 1048576", b"1", b"1 0 0", b"1 -0")),
+    (b"0 1\n1 0", b"1 0\n0 1"),
+    *((b"trace 1", it) for it in (b"trace 2", b"trace 3", b"trace 01", b"Trace 1", b"\ntrace 1")),
+    *((b"points 2", it) for it in (b"points 0", b"points 3", b"points 257", b"points 02", b"points  2")),
+    (b"stage", b"closure"),
+    (b"end\n", b""),
+    (b"end", b"end\n"),
+    (b"end", b"end\r\n\r"),
+]
+# Relations that make each word, and the colours of that trace.
+RELATIONS = [
+    *b"|:An|?|~~|~~?????|~??|~??D|~?C@|DQ|DQc?|DQd|&A_|>>graph6<<DQc|>>graph6<<|>>digraph6<<matrix x".split(b"|"),
+    *b"matrix x|matrix 4294967296|matrix 0|matrix 257|matrix 1|matrix 1\nx|matrix 1\n0 1".split(b"|"),
+    *b"matrix 1\n07|matrix 1\n1048576|matrix 2\n0 1\n1|matrix 2\n7 7\n7 8|matrix 2\n7\t7\r\n 7 7 \n".split(b"|"),
+]
 
 
 def program(words):
@@ -75,19 +101,21 @@ def spoiled_relation(chance, text):
     for _ in range(chance.randint(1, 2)):
         at = chance.randrange(len(text) + 1)
         byte = bytes([chance.choice([0, 9, 10, 13, 32, 48, 63, 64, 95, 125, 126, 127, 200])])
-        long = b"~?%c%c" % (chance.randint(63, 70), chance.randint(63, 126))
+        long = b"~?" + bytes([chance.choice([63, 63, 64, 66, 67, 70]), chance.randint(63, 126)])
+        number = chance.choice(list(re.finditer(rb"\d+|$", text)))
         text = chance.choice([
             text[:at] + byte + text[at + 1 :],
             text[:at] + byte + text[at:],
             text[:at],
-            text[at:],
+            b"?" + text[1:],
+            text.rstrip(b"\n")[:-1] + b"~\n",
             text + b"1\n",
             b">>digraph6<<" + text,
             long + text[1:],
             text[:1] + long + text[1:],
-            re.sub(rb"\d+", chance.choice(NUMBERS), text, count=1),
+            text[: number.start()] + chance.choice(NUMBERS) + text[number.end() :],
+            text[: number.start()] + chance.choice(NUMBERS) + text[number.end() :],
             re.sub(rb"\n", b"\r\n", text),
-            re.sub(rb"\d+(?=\s*\Z)", chance.choice(NUMBERS), text),
         ])  # fmt: skip
     return text
 
@@ -162,9 +190,25 @@ def certified(trace, relation, line, script):
     return judged if is_same else (1, "refused OtherRelation\n", "")
 
 
+def cases(chance, count, folder):
+    """Yields traces, each with a relation and its line, or without: those of the tables, and then so many at random."""
+    yield from ((TRACE.replace(*it), None, 1) for it in CHANGES)
+    yield from ((TRACE, it, 1) for it in RELATIONS)
+    yield from ((TRACE, b"DQc\n" + RELATIONS[-1], it) for it in range(1, 6))
+    for at in range(count):
+        of, text = some_trace(chance, folder)
+        # (a relation is judged only if the trace is one)
+        if chance.random() < (0.25 if at % 2 else 0.9):
+            text = spoiled_trace(chance, text)
+        bad, line = spoiled_relation(chance, of), chance.choice([1, 1, 1, 2, 3])
+        of = chance.choice([of, of, bad, bad, bad, some_relation(chance)])
+        front = chance.choice([of, of, some_relation(chance)]) if line != 1 else b""
+        yield text, front + of if at % 2 else None, line
+
+
 def main():
     count, seed = (list(map(int, sys.argv[1:])) + [400, 1][len(sys.argv) - 1 :])[:2]
-    chance, met = random.Random(seed), collections.Counter()
+    chance, met, judged = random.Random(seed), collections.Counter(), 0
     with tempfile.TemporaryDirectory() as name:
         folder = Path(name)
         trace, relation, script = (str(folder / it) for it in ("t", "r", "s"))
@@ -174,31 +218,27 @@ def main():
         Path(relation).touch()
         has_certify = program(["certify", trace, relation])[0] != 2
         numpy = check_trace.numpy
-        for at in range(count):
-            of, text = some_trace(chance, folder)
-            if chance.random() < 0.75:
-                text = spoiled_trace(chance, text)
+        for text, of, line in cases(chance, count, folder):
             Path(trace).write_bytes(text)
             words, wanted = [trace], program(["check", trace])
-            if at % 2:
-                of = chance.choice([of, of, spoiled_relation(chance, of), some_relation(chance)])
-                line = str(chance.choice([1, 1, 1, 2, 3]))
-                front = chance.choice([of, of, some_relation(chance)]) if line != "1" else b""
-                Path(relation).write_bytes(front + of)
-                words = [trace, relation, line]
+            if of is not None:
+                Path(relation).write_bytes(of)
+                words = [trace, relation, str(line)]
                 wanted = program(["certify", *words]) if has_certify else certified(*words, script)
-            check_trace.numpy = numpy if at % 4 < 2 else None
-            found = checker(words)
-            if found != wanted:
-                print(f"FAILED: {words}\nthe program: {wanted}\nthe checker: {found}\n{text!r}\n{Path(relation).read_bytes()!r}")
-                return 1
+            for check_trace.numpy in {numpy, None} if judged % 4 == 0 else {chance.choice([numpy, None])}:
+                found = checker(words)
+                if found != wanted:
+                    print(f"FAILED: {words}\nthe program: {wanted}\nthe checker: {found}", text, of, sep="\n")
+                    return 1
+            judged += 1
             met.update(it for it in re.findall(r"[A-Za-z]+", found[1] + found[2].rpartition(": ")[2]) if it in WORDS)
     missed = [it for it in WORDS if not met[it]]
     if missed:
         print(f"FAILED: never met: {' '.join(missed)}")
         return 1
     print(" ".join(f"{it} {met[it]}" for it in WORDS))
-    print(f"referee: {count} judged alike, numpy {'there' if numpy else 'not there'}, certify {'asked' if has_certify else 'worked out'}")
+    more = "half of them with numpy" if numpy else "without numpy"
+    print(f"referee: {judged} judged alike, {more}, certify {'asked' if has_certify else 'worked out'}")
     return 0
 
 

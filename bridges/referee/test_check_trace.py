@@ -132,10 +132,26 @@ def some_trace(chance, folder):
     return relation, out[out.index("trace ") :].encode()
 
 
+def with_other_steps(chance, text):
+    """Puts some steps at random in the place of the last stage's: rounds, where they may stand, and then others."""
+    if b"\nclosure\n" not in text or b"\nstage\n" not in text:
+        return text
+    front, claim = text.split(b"\nclosure\n", 1)
+    lines = [it for it in front.split(b"\n") if not re.match(rb"[DFTR]", it)]
+    most = chance.choice([2, 5, 15])
+    steps = [b"R"] * chance.randint(0, 2) if text.startswith(b"trace 2") else []
+    for kind in chance.choices([b"D", b"F", b"T", b"T", b"T"], k=chance.randint(1, 4)):
+        count = {b"D": 1, b"F": 2, b"T": 3}[kind]
+        steps.append(b" ".join([kind, *(b"%d" % chance.randint(0, most) for _ in range(count))]))
+    return b"\n".join([*lines, *steps, b"closure", claim])
+
+
 def spoiled_trace(chance, text):
     """Changes a line or a number of a trace, or the text as a whole, once or twice."""
     steps = [b"D 0", b"D 1", b"F 0 1", b"F 1 1", b"T 0 1 1", b"T 1 0 1", b"T 2 1 2", b"R", b"D 65535", b"D 65536", b"D"]
     fixed = [b"stage", b"closure", b"end", b"", b"trace 2", b"trace 1", b"points 2", b"0", b"0 0 0", b"\r", b" R"]
+    if chance.random() < 0.3:
+        return with_other_steps(chance, text)
     for _ in range(chance.randint(1, 2)):
         lines = text.split(b"\n")
         at = chance.randrange(len(lines))
@@ -195,6 +211,10 @@ def cases(chance, count, folder):
     yield from ((TRACE.replace(*it), None, 1) for it in CHANGES)
     yield from ((TRACE, it, 1) for it in RELATIONS)
     yield from ((TRACE, b"DQc\n" + RELATIONS[-1], it) for it in range(1, 6))
+    # After one round of the path on 7 points: which of its classes a step parts tells how a round numbers them.
+    (folder / "script").write_text("trace 2\n", encoding="ascii")
+    rounds = program(["run", str(TOP / "examples/path_7.g6"), str(folder / "script")])[1].encode()
+    yield from ((rounds.replace(b"R\nR", b"R\nT 3 %d 1" % it), None, 1) for it in range(14))
     for at in range(count):
         of, text = some_trace(chance, folder)
         # (a relation is judged only if the trace is one)

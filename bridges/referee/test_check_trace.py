@@ -206,6 +206,18 @@ def certified(trace, relation, line, script):
     return judged if is_same else (1, "refused OtherRelation\n", "")
 
 
+def judges_words(trace, folder):
+    """Compares what is said of words that fit no form, and of files that cannot be read or are over their limits."""
+    usage = (2, "", "usage: check_trace.py TRACE [RELATION [LINE]]\n")
+    misfits = [[], ["-", "-"], ["-", "-", "2"], *([trace, trace, it] for it in ("0", "01", "1000001", "x"))]
+    large = folder / "large"
+    large.write_bytes(b"\n" * 4_194_305)
+    is_right = all(checker(it) == usage for it in [*misfits, [trace, trace, "1", "1"]])
+    for it in (str(folder), str(folder / "none"), str(large)):
+        is_right &= checker([trace, it]) == program(["run", it, trace]) and checker([it]) == program(["check", it])
+    return is_right
+
+
 def cases(chance, count, folder):
     """Yields traces, each with a relation and its line, or without: those of the tables, and then so many at random."""
     yield from ((TRACE.replace(*it), None, 1) for it in CHANGES)
@@ -237,6 +249,10 @@ def main():
         Path(trace).touch()
         Path(relation).touch()
         has_certify = program(["certify", trace, relation])[0] != 2
+        Path(trace).write_bytes(TRACE)
+        if not judges_words(trace, folder):
+            print("FAILED: words that fit no form, or files that cannot be read")
+            return 1
         numpy = check_trace.numpy
         for text, of, line in cases(chance, count, folder):
             Path(trace).write_bytes(text)

@@ -181,7 +181,7 @@ def conditions(points, parts, colours=None):
 
 
 def main(words):
-    line = (words + ["1", "1"])[2]
+    line = (words + ["1", "1", "1"])[2]
     if not 1 <= len(words) <= 3 or words[:2] == ["-", "-"] or not re.fullmatch("[1-9][0-9]{0,5}|1000000", line):
         print("usage: check_trace.py TRACE [RELATION [LINE]]", file=sys.stderr)
         return 2

@@ -132,10 +132,26 @@ def some_trace(chance, folder):
     return relation, out[out.index("trace ") :].encode()
 
 
+def with_other_steps(chance, text):
+    """Puts some steps at random in the place of the last stage's: rounds, where they may stand, and then others."""
+    if b"\nclosure\n" not in text or b"\nstage\n" not in text:
+        return text
+    front, claim = text.split(b"\nclosure\n", 1)
+    lines = [it for it in front.split(b"\n") if not re.match(rb"[DFTR]", it)]
+    most = chance.choice([2, 5, 15])
+    steps = [b"R"] * chance.randint(0, 2) if text.startswith(b"trace 2") else []
+    for kind in chance.choices([b"D", b"F", b"T", b"T", b"T"], k=chance.randint(1, 4)):
+        count = {b"D": 1, b"F": 2, b"T": 3}[kind]
+        steps.append(b" ".join([kind, *(b"%d" % chance.randint(0, most) for _ in range(count))]))
+    return b"\n".join([*lines, *steps, b"closure", claim])
+
+
 def spoiled_trace(chance, text):
     """Changes a line or a number of a trace, or the text as a whole, once or twice."""
     steps = [b"D 0", b"D 1", b"F 0 1", b"F 1 1", b"T 0 1 1", b"T 1 0 1", b"T 2 1 2", b"R", b"D 65535", b"D 65536", b"D"]
     fixed = [b"stage", b"closure", b"end", b"", b"trace 2", b"trace 1", b"points 2", b"0", b"0 0 0", b"\r", b" R"]
+    if chance.random() < 0.3:
+        return with_other_steps(chance, text)
     for _ in range(chance.randint(1, 2)):
         lines = text.split(b"\n")
         at = chance.randrange(len(lines))
@@ -190,11 +206,27 @@ def certified(trace, relation, line, script):
     return judged if is_same else (1, "refused OtherRelation\n", "")
 
 
+def judges_words(trace, folder):
+    """Compares what is said of words that fit no form, and of files that cannot be read or are over their limits."""
+    usage = (2, "", "usage: check_trace.py TRACE [RELATION [LINE]]\n")
+    misfits = [[], ["-", "-"], ["-", "-", "2"], *([trace, trace, it] for it in ("0", "01", "1000001", "x"))]
+    large = folder / "large"
+    large.write_bytes(b"\n" * 4_194_305)
+    is_right = all(checker(it) == usage for it in [*misfits, [trace, trace, "1", "1"]])
+    for it in (str(folder), str(folder / "none"), str(large)):
+        is_right &= checker([trace, it]) == program(["run", it, trace]) and checker([it]) == program(["check", it])
+    return is_right
+
+
 def cases(chance, count, folder):
     """Yields traces, each with a relation and its line, or without: those of the tables, and then so many at random."""
     yield from ((TRACE.replace(*it), None, 1) for it in CHANGES)
     yield from ((TRACE, it, 1) for it in RELATIONS)
     yield from ((TRACE, b"DQc\n" + RELATIONS[-1], it) for it in range(1, 6))
+    # After one round of the path on 7 points: which of its classes a step parts tells how a round numbers them.
+    (folder / "script").write_text("trace 2\n", encoding="ascii")
+    rounds = program(["run", str(TOP / "examples/path_7.g6"), str(folder / "script")])[1].encode()
+    yield from ((rounds.replace(b"R\nR", b"R\nT 3 %d 1" % it), None, 1) for it in range(14))
     for at in range(count):
         of, text = some_trace(chance, folder)
         # (a relation is judged only if the trace is one)
@@ -217,6 +249,10 @@ def main():
         Path(trace).touch()
         Path(relation).touch()
         has_certify = program(["certify", trace, relation])[0] != 2
+        Path(trace).write_bytes(TRACE)
+        if not judges_words(trace, folder):
+            print("FAILED: words that fit no form, or files that cannot be read")
+            return 1
         numpy = check_trace.numpy
         for text, of, line in cases(chance, count, folder):
             Path(trace).write_bytes(text)

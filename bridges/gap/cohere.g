@@ -25,6 +25,9 @@
 ##
 ##  A session (CohereSession) is a configuration that edits change.
 ##
+##  Of a group of permutations the configuration is that of its orbits on pairs
+##  (CohereOrbitals).
+##
 ##  The program is what COHERE names in the environment, else 'cohere' on the
 ##  PATH, else bin/cohere of the checkout that this file stands in.
 ##
@@ -240,9 +243,43 @@ COHERE_Bind("COHERE_Shown", function(answers, at, text)
   return shown;
 end);
 
+# The number from 0 of the orbit of each pair of points 1 .. n under a group of permutations. The orbits are counted
+# as the program counts classes: along the diagonal, and then off it, row by row.
+COHERE_Bind("COHERE_OrbitalMatrix", function(group, n)
+  local onPairs, orbits, orbitAt, numbers, k, place;
+  if n > 256 then COHERE_Error("a group on ", n, " points", COHERE_HintIn(COHERE_OF_RELATION, "TooManyPoints")); fi;
+  # (the pair (x,y) is the place (x-1)*n + y)
+  onPairs := List(GeneratorsOfGroup(group), function(g)
+    local images;
+    images := ListPerm(g, n);
+    return PermList(Concatenation(List(images, x -> (x - 1) * n + images)));
+  end);
+  orbits := OrbitsPerms(onPairs, [1 .. n^2]);
+  orbitAt := [];
+  for k in [1 .. Length(orbits)] do orbitAt{orbits[k]} := ListWithIdenticalEntries(Length(orbits[k]), k); od;
+  numbers := [];
+  k := 0;
+  for place in Concatenation(List([1 .. n], x -> (x - 1) * n + x), [1 .. n^2]) do
+    if not IsBound(numbers[orbitAt[place]]) then
+      numbers[orbitAt[place]] := k;
+      k := k + 1;
+    fi;
+  od;
+  return List([1 .. n], x -> numbers{orbitAt{[(x - 1) * n + 1 .. x * n]}});
+end);
+
+# The orbits on pairs of a group of permutations of 1 .. n, where n is the largest point that it moves.
+COHERE_Bind("COHERE_OrbitalsOfMoved", function(group)
+  if LargestMovedPoint(group) = 0 then
+    COHERE_Error("the group moves no point; CohereOrbitals( G, points ) takes the points too");
+  fi;
+  return COHERE_OrbitalMatrix(group, LargestMovedPoint(group));
+end);
+
 # The text of a relation.
 COHERE_Bind("COHERE_Text", function(relation)
   if IsString(relation) then return Concatenation(Chomp(relation), "\n"); fi;
+  if IsPermGroup(relation) then return COHERE_MatrixText(COHERE_OrbitalsOfMoved(relation)); fi;
   if IsList(relation) then
     if not ForAll(relation, row -> IsList(row) and Length(row) = Length(relation) and ForAll(row, IsInt)) then
       COHERE_Error("a matrix of colours has N rows of N integers, and row ",
@@ -264,7 +301,7 @@ COHERE_Bind("COHERE_Text", function(relation)
   fi;
   if IsRecord(relation) and IsBound(relation.text) then return COHERE_MatrixText(relation.matrix - 1); fi;
   COHERE_Error("a relation is a matrix of colours, a graph of GRAPE, a text in graph6 or digraph6, ",
-               "or a configuration");
+               "a group of permutations, or a configuration");
 end);
 
 # The blocks of a growth string of the program.
@@ -293,13 +330,46 @@ end);
 #F  CohereClosure( M )
 ##
 ##  is the coherent closure of M: a matrix of colours, a graph of GRAPE, a
-##  text in graph6 or digraph6, or a configuration. (The text of a file is
-##  StringFile of its name.)
+##  text in graph6 or digraph6, a group of permutations, or a configuration.
+##  (The text of a file is StringFile of its name.)
 ##
 COHERE_Bind("CohereClosure", function(relation)
   local text;
   text := COHERE_Text(relation);
   return COHERE_Shown(COHERE_AskOver(text, ["show"], rec(), "CohereClosure( M )"), 1, text);
+end);
+
+#############################################################################
+##
+#F  CohereOrbitals( G )
+#F  CohereOrbitals( G, points[, action] )
+##
+##  is the configuration whose classes are the orbits of a group on pairs of
+##  points, the 2-orbits of G. The group need not be transitive. Its points are
+##  1 .. LargestMovedPoint( G ), for a group of permutations, which is also what
+##  CohereClosure( G ) takes; or those of a list that G maps to itself, by the
+##  action OnPoints or another one, as OnSets. Point x of the configuration is
+##  then points[x].
+##
+COHERE_Bind("CohereOrbitals", function(group, more...)
+  local points, action, moved;
+  if not IsGroup(group) or more = [] and not IsPermGroup(group) then
+    COHERE_Error("CohereOrbitals( G ): this is for a group of permutations; CohereOrbitals( G, points, action ) is ",
+                 "for any group that acts on the points");
+  fi;
+  if more = [] then return CohereClosure(group); fi;
+  points := more[1];
+  action := OnPoints;
+  if Length(more) > 1 then action := more[2]; fi;
+  if not IsList(points) or IsEmpty(points) or not IsDuplicateFreeList(points) then
+    COHERE_Error("CohereOrbitals( G, points ): the points are a list that is not empty and has none twice");
+  fi;
+  for moved in GeneratorsOfGroup(group) do
+    if Set(points, x -> action(x, moved)) <> Set(points) then
+      COHERE_Error("CohereOrbitals( G, points ): ", moved, " does not map the list of points to itself");
+    fi;
+  od;
+  return CohereClosure(COHERE_OrbitalMatrix(Action(group, points, action), Length(points)));
 end);
 
 #############################################################################

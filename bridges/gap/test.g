@@ -176,6 +176,51 @@ ExpectError("no session", function() CohereFix(cube, 1); end, "CohereSession( M 
 ExpectError("no colour", function() CohereSet(CohereSession("Dhc"), 1, 1, -1); end, "-1 is no colour");
 ExpectError("absent colour", function() CohereJoin(CohereSession("Dhc"), 1, 9); end, "refused ColourAbsent: ");
 
+# Orbitals of groups
+Generated := function(points, maps)
+  return Group(List(maps, one -> PermList(List(points, it -> Position(points, one(it))))));
+end;
+shrikhande := Generated(Tuples([0 .. 3], 2), [it -> (it + [1, 0]) mod 4, it -> [it[1] - it[2], it[1]] mod 4, Reversed]);
+clebsch := Generated(Filtered(Tuples([0, 1], 5), it -> Sum(it) mod 2 = 0), [it -> (it + [1, 1, 0, 0, 0]) mod 2,
+  it -> it{[2, 3, 4, 5, 1]}, it -> it{[2, 1, 3, 4, 5]}]);
+pairs := Combinations([1 .. 5], 2);
+edges := Filtered(Combinations(pairs, 2), it -> Intersection(it) = []);
+of168 := PSL(2, 7);
+cosets := RightCosets(of168, Normalizer(of168, SylowSubgroup(of168, 3)));
+for row in [["the Petersen graph", [SymmetricGroup(5), pairs, OnSets], 10, 3, 2],
+            ["its edges", [SymmetricGroup(5), edges, OnSetsSets], 15, 4, 4],
+            ["J(8,3)", [SymmetricGroup(8), Combinations([1 .. 8], 3), OnSets], 56, 4, 2],
+            ["PSL(2,7) on 28 points", [of168, cosets, OnRight], 28, 7, 8],
+            ["the Shrikhande graph", [shrikhande], 16, 4, 5],
+            ["the Clebsch graph", [clebsch], 16, 3, 2],
+            ["three orbits", [Group((1, 2, 3), (4, 5)), [1 .. 6]], 6, 12, fail],
+            ["points of any names", [Group((2, 7), (2, 9)), [9, 7, 2]], 3, 2, 1],
+            ["no generator", [Group([], ()), [1, 2]], 2, 4, 2]] do
+  Expect(Concatenation("orbitals of ", row[1]), function()
+    local c, orbits;
+    c := CallFuncList(CohereOrbitals, row[2]);
+    Assert(0, CohereRaw(c) = c.matrix - 1 and CohereClosure(c).matrix = c.matrix);
+    # (12 classes have many fusions)
+    if row[5] = fail then return [c.points, c.rank, fail]; fi;
+    return [c.points, c.rank, Length(CohereFusions(c))];
+  end, row{[3, 4, 5]});
+od;
+Expect("a group is a relation", function()
+  return CohereClosure(shrikhande) = CohereOrbitals(shrikhande, [1 .. 16])
+    and CohereSession(shrikhande).rank = 4 and CohereDirectProduct(cube, Group((1, 2))).points = 16;
+end, true);
+Expect("a group on 256 points", function()
+  return [CohereOrbitals(Group((1, 2), PermList(Concatenation([2 .. 256], [1])))).rank,
+          CohereOrbitals(Group(List([1 .. 128], it -> (2 * it - 1, 2 * it)))).rank];
+end, [2, 2 * 128 + 128 * 127]);
+ExpectError("a trivial group", function() CohereOrbitals(Group(())); end, "moves no point; CohereOrbitals( G, points )");
+ExpectError("points that are moved away", function() CohereOrbitals(Group((1, 2, 3)), [1, 2]); end,
+  "(1,2,3) does not map the list of points to itself");
+ExpectError("points twice", function() CohereOrbitals(Group((1, 2)), [1, 2, 1]); end, "has none twice");
+ExpectError("no group", function() CohereOrbitals([(1, 2)]); end, "this is for a group of permutations");
+ExpectError("a group of matrices", function() CohereOrbitals(GL(2, 2)); end, "CohereOrbitals( G, points, action )");
+ExpectError("a group on 257 points", function() CohereClosure(Group((1, 257))); end, "at most 256 points");
+
 # Reading the file once more takes what stands in it.
 Expect("read again", function()
   Read(Concatenation(COHERE_HERE, "cohere.g"));

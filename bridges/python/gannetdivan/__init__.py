@@ -1,6 +1,7 @@
 """Coherent configurations and association schemes, by the program ``cohere``.
 
 `closure` takes a graph or a matrix of colours, and gives the `Configuration` that is its coherent closure.
+`orbitals` takes permutations, and gives that of the orbits of their group on pairs of points.
 A `Session` keeps a history of edits, and asks over them. `check` judges a certificate of a closure.
 
 ``python3 -m gannetdivan each`` answers a script over many graphs, and ``python3 -m gannetdivan draw`` makes
@@ -39,6 +40,7 @@ from .errors import (
     Refused,
     UnreadableAnswer,
 )
+from .groups import orbitals
 from .session import Session
 from .traces import check
 
@@ -71,4 +73,5 @@ __all__ = [
     "Verdict",
     "check",
     "closure",
+    "orbitals",
 ]

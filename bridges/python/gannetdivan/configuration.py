@@ -46,7 +46,8 @@ def closure(relation: Any) -> Configuration:
     ----------
     relation : str, bytes, path, matrix or graph
         A graph6 or digraph6 text; a square matrix of colours, as lists or as a numpy array; a graph or
-        digraph of networkx or Sage; a `pathlib.Path` of a file. `gannetdivan.relations.relation_text` says more.
+        digraph of networkx or Sage; a permutation group of sympy or Sage; a `pathlib.Path` of a file.
+        `gannetdivan.relations.relation_text` says more.
 
     Returns
     -------

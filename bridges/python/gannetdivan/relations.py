@@ -1,4 +1,4 @@
-"""The text of a relation, made of what users have: texts, matrices, and graphs of networkx and Sage.
+"""The text of a relation, made of what users have: texts, matrices, graphs and groups of networkx, sympy, Sage.
 
 No graph format is written here: graphs are handed on by their own library's methods, and where it has none
 for a graph, as a matrix of colours.
@@ -10,6 +10,8 @@ import operator
 import os
 from pathlib import Path
 from typing import Any, Iterable, List
+
+from .permutations import is_group, orbital_matrix
 
 __all__ = ["matrix_text", "relation_text"]
 
@@ -26,8 +28,8 @@ def relation_text(relation: Any) -> str:
     relation : str, bytes, path, matrix or graph
         A line of graph6 or digraph6, or a matrix in the program's own format (``matrix 2`` and its rows);
         a `pathlib.Path` of a file with one of these in front; a square matrix of N rows of N colours, as
-        lists or as a numpy array; a graph or digraph of networkx or Sage; or a
-        `gannetdivan.Configuration`.
+        lists or as a numpy array; a graph or digraph of networkx or Sage; a permutation group of sympy or
+        Sage, for its orbits on pairs; or a `gannetdivan.Configuration`.
 
     Returns
     -------
@@ -63,11 +65,13 @@ def relation_text(relation: Any) -> str:
         return f"{relation.graph6_string()}\n"
     if _is_of("sage", relation) and hasattr(relation, "dig6_string"):
         return f"&{relation.dig6_string().lstrip('&')}\n"
+    if is_group(relation):
+        return matrix_text(orbital_matrix(relation))
     if hasattr(relation, "tolist"):
         relation = relation.tolist()
     if isinstance(relation, Iterable):
         return matrix_text(relation)
-    raise TypeError(f"a relation is a text, a matrix or a graph, and no {type(relation).__name__}")
+    raise TypeError(f"a relation is a text, a matrix, a graph or a group, and no {type(relation).__name__}")
 
 
 def matrix_text(rows: Iterable[Iterable[Any]]) -> str:

@@ -1,4 +1,4 @@
-"""The closure by its definition, plain and slow: what the tests compare the program with.
+"""The closure by its definition, and its neighbours, plain and slow: what the tests compare the program with.
 
 It shares nothing with the package, nor with the program.
 """
@@ -57,3 +57,13 @@ def growth_strings(length):
 def fusions(matrix):
     rank = 1 + max(map(max, matrix))
     return [it for it in growth_strings(rank) if is_coherent([[it[c] for c in row] for row in matrix])]
+
+
+def elements(generators):
+    """List the elements of a group of permutations, each as the tuple of its images."""
+    found = {tuple(range(len(generators[0])))}
+    fresh = list(found)
+    while fresh:
+        fresh = list({tuple(one[it] for it in element) for element in fresh for one in generators} - found)
+        found.update(fresh)
+    return found

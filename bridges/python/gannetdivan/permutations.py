@@ -10,6 +10,7 @@ from typing import Any, Iterable, List, Optional
 
 from .answers import Matrix
 from .errors import BadRelation
+from .unions import join, leader
 
 __all__ = ["Permutation", "is_group", "orbital_matrix", "permutations_of"]
 
@@ -115,21 +116,10 @@ def orbital_matrix(generators: Any, points: Optional[int] = None) -> Matrix:
     for images in permutations:
         for x, image in enumerate(images):
             for y, other in enumerate(images):
-                _join(leaders, size * x + y, size * image + other)
-    return _numbered([_leader(leaders, it) for it in range(size * size)], size)
+                join(leaders, size * x + y, size * image + other)
+    return _numbered([leader(leaders, it) for it in range(size * size)], size)
 
 
-def _leader(leaders: List[int], pair: int) -> int:
-    while leaders[pair] != pair:
-        leaders[pair] = pair = leaders[leaders[pair]]
-    return pair
-
-
-def _join(leaders: List[int], pair: int, image: int) -> None:
-    if pair != image:
-        leaders[_leader(leaders, image)] = _leader(leaders, pair)
-
-
-def _numbered(leaders: List[int], size: int) -> Matrix:
-    numbers = {leader: at for at, leader in enumerate(dict.fromkeys([*leaders[:: size + 1], *leaders]))}
-    return [[numbers[it] for it in leaders[size * x : size * (x + 1)]] for x in range(size)]
+def _numbered(orbits: List[int], size: int) -> Matrix:
+    numbers = {it: at for at, it in enumerate(dict.fromkeys([*orbits[:: size + 1], *orbits]))}
+    return [[numbers[it] for it in orbits[size * x : size * (x + 1)]] for x in range(size)]

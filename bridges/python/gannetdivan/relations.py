@@ -13,7 +13,7 @@ from typing import Any, Iterable, List
 
 from .permutations import is_group, orbital_matrix
 
-__all__ = ["matrix_text", "relation_text"]
+__all__ = ["colour_number", "matrix_text", "relation_text"]
 
 # The colours that the program gives to the pairs of a graph: the diagonal, an edge or arc, any other pair,
 # a loop.
@@ -98,7 +98,7 @@ def matrix_text(rows: Iterable[Iterable[Any]]) -> str:
     for x, row in enumerate(rows):
         if isinstance(row, (str, bytes)) or not isinstance(row, Iterable):
             raise TypeError(f"row {x} of a matrix of colours is a list of integers, and no {type(row).__name__}")
-        matrix.append([_colour(it) for it in row])
+        matrix.append([colour_number(it) for it in row])
     for x, row in enumerate(matrix):
         if len(row) != len(matrix):
             raise ValueError(f"a matrix of colours is square: row {x} of {len(matrix)} has {len(row)} entries")
@@ -106,7 +106,8 @@ def matrix_text(rows: Iterable[Iterable[Any]]) -> str:
     return "".join(f"{line}\n" for line in lines)
 
 
-def _colour(entry: Any) -> int:
+def colour_number(entry: Any) -> int:
+    """Tell an entry of a matrix of colours, or one colour, as an int."""
     # (adjacency matrices are often of floats)
     if isinstance(entry, float) and entry.is_integer():
         entry = int(entry)

@@ -893,7 +893,7 @@ COHERE_Bind("CohereRing", function(group, sets)
     if Size(group) > 256 then
       COHERE_Error("CohereRing( G, sets ): a group of order ", Size(group), "; it is to have at most 256 elements");
     fi;
-    elements := Concatenation([One(group)], Filtered(AsList(group), it -> it <> One(group)));
+    elements := Concatenation([One(group)], Filtered(AsSSortedList(group), it -> it <> One(group)));
     table := MultiplicationTable(elements);
   else
     table := group;

@@ -899,8 +899,8 @@ COHERE_Bind("CohereRing", function(group, sets)
     table := group;
     elements := [1 .. Length(table)];
   fi;
-  if ForAll(sets, it -> it in elements) then sets := [sets]; fi;
-  if not ForAll(sets, set -> IsList(set) and IsSubset(elements, set)) then
+  if IsList(sets) and ForAll(sets, it -> it in elements) then sets := [sets]; fi;
+  if not IsList(sets) or not ForAll(sets, set -> IsList(set) and IsSubset(elements, set)) then
     COHERE_Error("CohereRing( G, sets ): a set is a list of elements of the group, or of numbers of its table");
   fi;
   patterns := List(elements, it -> List(sets, set -> it in set));

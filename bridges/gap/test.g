@@ -180,7 +180,8 @@ ExpectError("absent colour", function() CohereJoin(CohereSession("Dhc"), 1, 9); 
 Generated := function(points, maps)
   return Group(List(maps, one -> PermList(List(points, it -> Position(points, one(it))))));
 end;
-shrikhande := Generated(Tuples([0 .. 3], 2), [it -> (it + [1, 0]) mod 4, it -> [it[1] - it[2], it[1]] mod 4, Reversed]);
+shrikhande := Generated(Tuples([0 .. 3], 2),
+  [it -> (it + [1, 0]) mod 4, it -> [it[1] - it[2], it[1]] mod 4, Reversed]);
 clebsch := Generated(Filtered(Tuples([0, 1], 5), it -> Sum(it) mod 2 = 0), [it -> (it + [1, 1, 0, 0, 0]) mod 2,
   it -> it{[2, 3, 4, 5, 1]}, it -> it{[2, 1, 3, 4, 5]}]);
 pairs := Combinations([1 .. 5], 2);
@@ -205,6 +206,15 @@ for row in [["the Petersen graph", [SymmetricGroup(5), pairs, OnSets], 10, 3, 2]
     return [c.points, c.rank, Length(CohereFusions(c))];
   end, row{[3, 4, 5]});
 od;
+Expect("orbitals of each group on 6 points, up to conjugacy", function()
+  return Number(List(ConjugacyClassesSubgroups(SymmetricGroup(6)), Representative), function(group)
+    local c;
+    c := CohereOrbitals(group, [1 .. 6]);
+    # (as many as an element fixes pairs, on the average)
+    return CohereRaw(c) = c.matrix - 1
+      and c.rank * Size(group) = Sum(group, g -> (6 - NrMovedPoints(g))^2);
+  end);
+end, 56);
 Expect("a group is a relation", function()
   return CohereClosure(shrikhande) = CohereOrbitals(shrikhande, [1 .. 16])
     and CohereSession(shrikhande).rank = 4 and CohereDirectProduct(cube, Group((1, 2))).points = 16;
@@ -227,7 +237,7 @@ Expect("generated closed subsets", function()
 end, [[1], [1 .. 4], [1, 3], [1 .. 4], [1, 4]]);
 Expect("the least of the closed subsets", function()
   return ForAll([path, cube, CohereOrbitals(CyclicGroup(IsPermGroup, 12))], c -> ForAll([1 .. c.rank],
-    k -> CohereGenerated(c, k) = First(SortedList(Filtered(CohereClosedSubsets(c), it -> k in it), {a, b} -> Length(a) < Length(b)))));
+    k -> CohereGenerated(c, k) = Intersection(Filtered(CohereClosedSubsets(c), it -> k in it))));
 end, true);
 Expect("a generated closed subset of a high rank", function()
   local c, set;
@@ -249,7 +259,7 @@ end, [[1], [2, 6], [3, 5], [4]]);
 Expect("the ring of no set", function() return List(CohereRing(cyclic, []), Length); end, [1, 5]);
 # The classes of a group are basic sets of a ring, and so are the orbits of its automorphisms.
 Expect("rings of classes and of automorphisms", function()
-  return ForAll(Filtered(Concatenation(List([2 .. 16], n -> AllSmallGroups(n))), it -> Size(it) > 1), function(group)
+  return ForAll(Concatenation(List([2 .. 16], n -> AllSmallGroups(n))), function(group)
     local classes, orbits;
     classes := Set(ConjugacyClasses(group), AsSet);
     orbits := Set(Orbits(AutomorphismGroup(group), AsList(group)), Set);
@@ -271,11 +281,14 @@ end, [1, 1, 2, 3, 3, 7, 4, 10, 7, 10, 4, 32, 6, 13, 21, 37]);
 ExpectError("no table of a group", function() CohereRing([[2, 1], [1, 2]], [2]); end,
   "CohereRing( G, sets ): refused NotGroup: this is no table of products with the unit 1");
 ExpectError("no element", function() CohereRing(cyclic, [(1, 2)]); end, "a set is a list of elements");
+ExpectError("no set", function() CohereRing(cyclic, turn); end, "a set is a list of elements");
 ExpectError("a large group", function() CohereRing(SymmetricGroup(6), [(1, 2)]); end, "order 720");
 
 # Cells
 Expect("cells of a path", function() return CohereCells("FhCGG", 1); end, [[1, 7], [2, 6], [3, 5], [4]]);
-Expect("cells of a configuration", function() return CohereCells(path, CohereClassesOf(path, 1)) = CohereCells("DQc", 1); end, true);
+Expect("cells of a configuration", function()
+  return CohereCells(path, CohereClassesOf(path, 1)) = CohereCells("DQc", 1);
+end, true);
 Expect("cells are checked", function() return CohereCheckCells(CohereCellsTrace("Bg", 1)); end,
   rec(accepted := true, points := 3, cells := 2, steps := 1));
 Expect("cells that are refused", function()
@@ -296,12 +309,12 @@ Expect("a table is that of the graph", function()
   return [table.points, table.valencies, table.p = CohereConstants(cube)];
 end, [8, [1, 3, 3, 1], true]);
 Expect("arrays that are refused", function()
-  return List([[[3], [2]], [[2, 2], [1, 1]], [[5, 3], [1, 4]], [[200, 199], [1, 1]], [[10, 1], [1, 5]], [[4, 3, 1], [1, 2, 3]]],
-    function(it)
-      local table;
-      table := CohereTable(rec(b := it[1], c := it[2]));
-      return [table.refused, table.at, table.hint <> ""];
-    end);
+  return List([[[3], [2]], [[2, 2], [1, 1]], [[5, 3], [1, 4]], [[200, 199], [1, 1]], [[10, 1], [1, 5]],
+               [[4, 3, 1], [1, 2, 3]]], function(it)
+    local table;
+    table := CohereTable(rec(b := it[1], c := it[2]));
+    return [table.refused, table.at, table.hint <> ""];
+  end);
 end, [["FirstC", [], true], ["Parts", [1], true], ["Valency", [2], true], ["TooManyPoints", [2], true],
       ["Negative", [2, 2, 2], true], ["Division", [2, 2, 1], true]]);
 ExpectError("no array", function() CohereTable(rec(b := [3, 2], c := [1])); end, "as many b as c");
@@ -310,8 +323,11 @@ ExpectError("a large number", function() CohereTable(rec(b := [256], c := [1]));
 # The lattice of the fusions
 Expect("the lattice of the cube", function() return CohereLattice(cube); end,
   rec(fusions := CohereFusions(cube), covers := [[2, 1], [3, 1], [4, 2], [4, 3]]));
-Expect("meets", function() return List([[1, 2], [2, 3], [3, 3], [4, 1]], it -> CohereMeet(cube, it[1], it[2])); end, [2, 4, 3, 4]);
-ExpectError("no fusion", function() CohereMeet(cube, 1, 5); end, "CohereMeet( c, 1, 5 ): refused PlaceRange: there is no such fusion; they are numbered from 1");
+Expect("meets", function()
+  return List([[1, 2], [2, 3], [3, 3], [4, 1]], it -> CohereMeet(cube, it[1], it[2]));
+end, [2, 4, 3, 4]);
+ExpectError("no fusion", function() CohereMeet(cube, 1, 5); end,
+  "CohereMeet( c, 1, 5 ): refused PlaceRange: there is no such fusion; they are numbered from 1");
 ExpectError("fusion 0", function() CohereMeet(cube, 0, 1); end, "numbered from 1");
 ExpectError("too many fusions", function()
   local group;

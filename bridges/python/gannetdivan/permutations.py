@@ -56,10 +56,10 @@ def permutations_of(generators: Any, points: Optional[int] = None) -> List[Permu
     ValueError
         A generator is no permutation of the points, or nothing tells how many points there are.
     """
-    if _is_of_sympy(generators):
-        listed = [_images(it) for it in generators.generators]
-    elif _is_of_sage(generators):
+    if _is_of_sage(generators):
         listed = _images_in_sage(generators)
+    elif _is_of_sympy(generators):
+        listed = [_images(it) for it in generators.generators]
     else:
         listed = [_images(it) for it in generators]
     if points is None and not listed:

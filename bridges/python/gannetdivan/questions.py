@@ -186,6 +186,7 @@ def cells(relation: Any, colours: Classes = 1) -> Cells:
     relation : anything that `gannetdivan.closure` takes
     colours : int or iterable of int
         The pairs of these colours of the relation, as it is read, are the arcs: 1 for the edges of a graph.
+        Of a `Configuration` the colours are its classes.
 
     Returns
     -------

@@ -9,7 +9,6 @@ import unittest
 from unittest import mock
 
 import gannetdivan
-from gannetdivan import IntersectionArray
 
 from . import plain
 from .known_groups import GROUPS
@@ -359,7 +358,8 @@ class Generated(unittest.TestCase):
             orbitals.quotient([0, 12, 20])
 
     def test_what_is_no_class(self):
-        for classes, said in [([0, 4], "no class 4: classes are numbered from 0 to 3"), (-1, "no class -1"), ([], "one class")]:
+        numbered = "classes are numbered from 0 to 3"
+        for classes, said in [([0, 4], f"no class 4: {numbered}"), (-1, "no class -1"), ([], "one class")]:
             with self.assertRaisesRegex(ValueError, said):
                 gannetdivan.closure(CUBE).generated(classes)
 

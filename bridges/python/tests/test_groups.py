@@ -42,7 +42,8 @@ class Orbits(unittest.TestCase):
             points = range(len(matrix))
             for one in generators:
                 with self.subTest(name=name):
-                    self.assertEqual([[matrix[one[x]][one[y]] for y in points] for x in points], matrix)
+                    # (a difference of matrices would take minutes to print)
+                    self.assertTrue([[matrix[one[x]][one[y]] for y in points] for x in points] == matrix)
 
     def test_what_is_taken(self):
         turn = [1, 2, 3, 0]
@@ -82,7 +83,7 @@ class Orbitals(unittest.TestCase):
             with self.subTest(name=name):
                 orbitals = gannetdivan.orbitals(generators)
                 # (class by class, number for number)
-                self.assertEqual(orbitals.matrix, orbital_matrix(generators))
+                self.assertTrue(orbitals.matrix == orbital_matrix(generators))
                 self.assertEqual((orbitals.rank, gannetdivan.closure(orbitals)), (rank, orbitals))
 
     def test_fusions(self):
@@ -140,7 +141,7 @@ class Orbitals(unittest.TestCase):
         ended = subprocess.run(["gap", "-q", "-b"], input=asked, capture_output=True, text=True, check=True)
         for name, matrix in zip(GROUPS, json.loads(ended.stdout)):
             with self.subTest(name=name):
-                self.assertEqual(gannetdivan.orbitals(GROUPS[name][0]).matrix, matrix)
+                self.assertTrue(gannetdivan.orbitals(GROUPS[name][0]).matrix == matrix)
 
 
 if __name__ == "__main__":

@@ -25,6 +25,9 @@
 ##
 ##  A session (CohereSession) is a configuration that edits change.
 ##
+##  Of a group of permutations the configuration is that of its orbits on pairs
+##  (CohereOrbitals).
+##
 ##  The program is what COHERE names in the environment, else 'cohere' on the
 ##  PATH, else bin/cohere of the checkout that this file stands in.
 ##
@@ -61,9 +64,9 @@ COHERE_Bind("COHERE_Fail", function(ended, asked, handed)
                    COHERE_HintIn(COHERE_OF_SCRIPT, word));
     fi;
     COHERE_Error(asked, ": script: ", word, COHERE_HintIn(COHERE_OF_SCRIPT, word));
-  elif words[3] = "line" or asked = "CohereCheck( trace )" then
+  elif asked in ["CohereCheck( trace )", "CohereCheckCells( trace )"] then
     COHERE_Error(asked, ": ", JoinStringsWithSeparator(words{[3 .. Length(words)]}, " "),
-                 COHERE_HintIn(COHERE_OF_TRACE, Last(words)));
+                 COHERE_HintIn(handed.hints, Last(words)));
   fi;
   word := words[3];
   said := JoinStringsWithSeparator(words{[3 .. Length(words)]}, " ");
@@ -240,9 +243,43 @@ COHERE_Bind("COHERE_Shown", function(answers, at, text)
   return shown;
 end);
 
+# The number from 0 of the orbit of each pair of points 1 .. n under a group of permutations. The orbits are counted
+# as the program counts classes: along the diagonal, and then off it, row by row.
+COHERE_Bind("COHERE_OrbitalMatrix", function(group, n)
+  local onPairs, orbits, orbitAt, numbers, k, place;
+  if n > 256 then COHERE_Error("a group on ", n, " points", COHERE_HintIn(COHERE_OF_RELATION, "TooManyPoints")); fi;
+  # (the pair (x,y) is the place (x-1)*n + y)
+  onPairs := List(GeneratorsOfGroup(group), function(g)
+    local images;
+    images := ListPerm(g, n);
+    return PermList(Concatenation(List(images, x -> (x - 1) * n + images)));
+  end);
+  orbits := OrbitsPerms(onPairs, [1 .. n^2]);
+  orbitAt := [];
+  for k in [1 .. Length(orbits)] do orbitAt{orbits[k]} := ListWithIdenticalEntries(Length(orbits[k]), k); od;
+  numbers := [];
+  k := 0;
+  for place in Concatenation(List([1 .. n], x -> (x - 1) * n + x), [1 .. n^2]) do
+    if not IsBound(numbers[orbitAt[place]]) then
+      numbers[orbitAt[place]] := k;
+      k := k + 1;
+    fi;
+  od;
+  return List([1 .. n], x -> numbers{orbitAt{[(x - 1) * n + 1 .. x * n]}});
+end);
+
+# The orbits on pairs of a group of permutations of 1 .. n, where n is the largest point that it moves.
+COHERE_Bind("COHERE_OrbitalsOfMoved", function(group)
+  if LargestMovedPoint(group) = 0 then
+    COHERE_Error("the group moves no point; CohereOrbitals( G, points ) takes the points too");
+  fi;
+  return COHERE_OrbitalMatrix(group, LargestMovedPoint(group));
+end);
+
 # The text of a relation.
 COHERE_Bind("COHERE_Text", function(relation)
   if IsString(relation) then return Concatenation(Chomp(relation), "\n"); fi;
+  if IsPermGroup(relation) then return COHERE_MatrixText(COHERE_OrbitalsOfMoved(relation)); fi;
   if IsList(relation) then
     if not ForAll(relation, row -> IsList(row) and Length(row) = Length(relation) and ForAll(row, IsInt)) then
       COHERE_Error("a matrix of colours has N rows of N integers, and row ",
@@ -264,7 +301,7 @@ COHERE_Bind("COHERE_Text", function(relation)
   fi;
   if IsRecord(relation) and IsBound(relation.text) then return COHERE_MatrixText(relation.matrix - 1); fi;
   COHERE_Error("a relation is a matrix of colours, a graph of GRAPE, a text in graph6 or digraph6, ",
-               "or a configuration");
+               "a group of permutations, or a configuration");
 end);
 
 # The blocks of a growth string of the program.
@@ -293,13 +330,46 @@ end);
 #F  CohereClosure( M )
 ##
 ##  is the coherent closure of M: a matrix of colours, a graph of GRAPE, a
-##  text in graph6 or digraph6, or a configuration. (The text of a file is
-##  StringFile of its name.)
+##  text in graph6 or digraph6, a group of permutations, or a configuration.
+##  (The text of a file is StringFile of its name.)
 ##
 COHERE_Bind("CohereClosure", function(relation)
   local text;
   text := COHERE_Text(relation);
   return COHERE_Shown(COHERE_AskOver(text, ["show"], rec(), "CohereClosure( M )"), 1, text);
+end);
+
+#############################################################################
+##
+#F  CohereOrbitals( G )
+#F  CohereOrbitals( G, points[, action] )
+##
+##  is the configuration whose classes are the orbits of a group on pairs of
+##  points, the 2-orbits of G. The group need not be transitive. Its points are
+##  1 .. LargestMovedPoint( G ), for a group of permutations, which is also what
+##  CohereClosure( G ) takes; or those of a list that G maps to itself, by the
+##  action OnPoints or another one, as OnSets. Point x of the configuration is
+##  then points[x].
+##
+COHERE_Bind("CohereOrbitals", function(group, more...)
+  local points, action, moved;
+  if not IsGroup(group) or more = [] and not IsPermGroup(group) then
+    COHERE_Error("CohereOrbitals( G ): this is for a group of permutations; CohereOrbitals( G, points, action ) is ",
+                 "for any group that acts on the points");
+  fi;
+  if more = [] then return CohereClosure(group); fi;
+  points := more[1];
+  action := OnPoints;
+  if Length(more) > 1 then action := more[2]; fi;
+  if not IsList(points) or IsEmpty(points) or not IsDuplicateFreeList(points) then
+    COHERE_Error("CohereOrbitals( G, points ): the points are a list that is not empty and has none twice");
+  fi;
+  for moved in GeneratorsOfGroup(group) do
+    if Set(points, x -> action(x, moved)) <> Set(points) then
+      COHERE_Error("CohereOrbitals( G, points ): ", moved, " does not map the list of points to itself");
+    fi;
+  od;
+  return CohereClosure(COHERE_OrbitalMatrix(Action(group, points, action), Length(points)));
 end);
 
 #############################################################################
@@ -460,6 +530,37 @@ end);
 ##
 COHERE_Bind("CohereClosedSubsets", c -> COHERE_Sets(c, "closed", "CohereClosedSubsets"));
 COHERE_Bind("CohereGoodSubsets", c -> COHERE_Sets(c, "good", "CohereGoodSubsets"));
+
+#############################################################################
+##
+#F  CohereGenerated( c, S ) . . . . the closed subset that the classes S generate
+##
+##  It is the least closed subset that has them all, told from the matrix, at any
+##  rank. Where there is one fibre, CohereQuotient by it has the program confirm
+##  that it is closed.
+##
+COHERE_Bind("CohereGenerated", function(c, set)
+  local blockOf, first, block, x, y;
+  COHERE_Classes(COHERE_Asked("CohereGenerated", set), c, set);
+  if IsInt(set) then set := [set]; fi;
+  set := Set(set);
+  blockOf := [];
+  for first in [1 .. c.points] do
+    if not IsBound(blockOf[first]) then
+      blockOf[first] := first;
+      block := [first];
+      for x in block do
+        for y in [1 .. c.points] do
+          if not IsBound(blockOf[y]) and (c.matrix[x][y] in set or c.matrix[y][x] in set) then
+            blockOf[y] := first;
+            Add(block, y);
+          fi;
+        od;
+      od;
+    fi;
+  od;
+  return Union(List([1 .. c.points], x -> Set(c.matrix[x]{Positions(blockOf, blockOf[x])})));
+end);
 
 #############################################################################
 ##
@@ -730,14 +831,185 @@ COHERE_Bind("CohereTrace", function(c, more...)
   return JoinStringsWithSeparator(Concatenation(lines{[start .. Length(lines)]}, [""]), "\n");
 end);
 
-COHERE_Bind("CohereCheck", function(trace)
-  local ended, words, n;
-  ended := COHERE_Run(["check", "-"], trace, rec());
-  if not ended.status in [0, 1] then COHERE_Fail(ended, "CohereCheck( trace )", rec()); fi;
-  words := SplitString(Chomp(ended.out), " ");
-  n := Filtered(List(words, Int), IsInt);
-  if words[1] = "accepted" then
-    return rec(accepted := true, points := n[1], rank := n[2], steps := n[3]);
+# What a checker says of a trace; 'hints' are those of its format, and 'counted' is what it counts beside the steps.
+COHERE_Bind("COHERE_Judged", function(word, trace, asked, hints, counted)
+  local ended, n, verdict;
+  ended := COHERE_Run([word, "-"], trace, rec());
+  if not ended.status in [0, 1] then COHERE_Fail(ended, asked, rec(hints := hints)); fi;
+  n := COHERE_NumbersIn(Chomp(ended.out));
+  if not StartsWith(ended.out, "accepted ") then
+    return rec(accepted := false, line := n[1], word := Last(SplitString(Chomp(ended.out), " ")));
   fi;
-  return rec(accepted := false, line := n[1], word := words[4]);
+  verdict := rec(accepted := true, points := n[1], steps := n[3]);
+  verdict.(counted) := n[2];
+  return verdict;
+end);
+
+COHERE_Bind("CohereCheck",
+  trace -> COHERE_Judged("check", trace, "CohereCheck( trace )", COHERE_OF_TRACE, "rank"));
+
+#############################################################################
+##
+##  Questions beside scripts
+##
+
+# Answers such a question: the lines that the program prints, each without its end. 'called' is what the user calls the
+# text that is handed over.
+COHERE_Bind("COHERE_Question", function(words, text, asked, called)
+  local ended;
+  ended := COHERE_Run(words, text, rec());
+  if ended.status <> 0 then COHERE_Fail(ended, asked, rec(("-") := text, ("called -") := called)); fi;
+  return SplitString(Chomp(ended.out), "\n");
+end);
+
+# The same where a refusal is an error.
+COHERE_Bind("COHERE_Answered", function(words, text, asked, called)
+  local lines;
+  lines := COHERE_Question(words, text, asked, called);
+  if StartsWith(lines[1], "refused ") then
+    COHERE_Error(asked, ": ", lines[1], COHERE_HintIn(COHERE_OF_QUESTION, SplitString(lines[1], " ")[2]));
+  fi;
+  return lines;
+end);
+
+#############################################################################
+##
+#F  CohereRing( G, sets )
+##
+##  is the Schur ring over a finite group that sets of its elements generate, as
+##  the list of its basic sets: the coarsest one in which each of the sets is a
+##  union of basic sets. Here 'sets' is one set of elements or a list of them,
+##  which may overlap.
+##
+##  G is a group, or a table of products as MultiplicationTable gives it, with
+##  the product of x and y at [x][y] and the unit 1; then elements are numbers.
+##
+##  All Schur rings over G are the fusions of its thin scheme, which is
+##  CohereOrbitals( G, AsList( G ), OnRight ).
+##
+COHERE_Bind("CohereRing", function(group, sets)
+  local elements, table, patterns, colours, words, lines;
+  if IsGroup(group) then
+    if Size(group) > 256 then
+      COHERE_Error("CohereRing( G, sets ): a group of order ", Size(group), "; it is to have at most 256 elements");
+    fi;
+    elements := Concatenation([One(group)], Filtered(AsSSortedList(group), it -> it <> One(group)));
+    table := MultiplicationTable(elements);
+  else
+    table := group;
+    elements := [1 .. Length(table)];
+  fi;
+  if IsList(sets) and ForAll(sets, it -> it in elements) then sets := [sets]; fi;
+  if not IsList(sets) or not ForAll(sets, set -> IsList(set) and IsSubset(elements, set)) then
+    COHERE_Error("CohereRing( G, sets ): a set is a list of elements of the group, or of numbers of its table");
+  fi;
+  patterns := List(elements, it -> List(sets, set -> it in set));
+  colours := List(patterns, it -> Position(Set(patterns), it));
+  words := Concatenation(["ring", "-"], List(colours, String));
+  lines := COHERE_Answered(words, COHERE_Text(table - 1), "CohereRing( G, sets )", "table");
+  return List(COHERE_Blocks(COHERE_Numbers(lines[2])), block -> elements{block});
+end);
+
+#############################################################################
+##
+#F  CohereCells( M, colours ) . . . . . . . . the coarsest equitable partition
+#F  CohereCellsTrace( M, colours )  . . . . . . . . . . . . . a certificate of it
+#F  CohereCheckCells( trace ) . . . . . . . . . . . . . . what the checker says
+##
+##  The arcs are the pairs whose colour in the relation M is 'colours', or one of
+##  them: 1 for the edges of a graph. Of a configuration the colours are its
+##  classes. From the points of one cell equally many arcs lead into each cell.
+##  The cells are lists of points, in the order of their least points.
+##
+##  The verdict is rec( accepted := true, points, cells, steps ) or
+##  rec( accepted := false, line, word ). Numbers in a trace are the program's.
+##
+COHERE_Bind("COHERE_AskCells", function(name, relation, colours)
+  local asked;
+  asked := Concatenation(name, "( M, ", String(colours), " )");
+  if IsRecord(relation) and IsBound(relation.matrix) then
+    COHERE_Classes(asked, relation, colours);
+    colours := colours - 1;
+  fi;
+  if IsInt(colours) then colours := [colours]; fi;
+  if not IsList(colours) or IsEmpty(colours) then
+    COHERE_Error(asked, ": colours are a list that is not empty");
+  fi;
+  colours := List(colours, it -> COHERE_Colour(asked, it));
+  return COHERE_Answered(Concatenation(["cells", "-"], colours), COHERE_Text(relation), asked, "relation");
+end);
+
+COHERE_Bind("CohereCells", function(relation, colours)
+  local lines;
+  lines := COHERE_AskCells("CohereCells", relation, colours);
+  return COHERE_Blocks(COHERE_Numbers(lines[Length(lines) - 1]));
+end);
+
+COHERE_Bind("CohereCellsTrace", {relation, colours} -> JoinStringsWithSeparator(
+  Concatenation(COHERE_AskCells("CohereCellsTrace", relation, colours), [""]), "\n"));
+
+COHERE_Bind("CohereCheckCells",
+  trace -> COHERE_Judged("check-cells", trace, "CohereCheckCells( trace )", COHERE_OF_CELL_TRACE, "cells"));
+
+#############################################################################
+##
+#F  CohereTable( array )
+##
+##  is what an intersection array rec( b := [b_0,..], c := [c_1,..] ), as
+##  CohereArray gives it, determines of every distance-regular graph that has it:
+##  rec( points, valencies, p ), where p[i][j][k] is the structure constant and
+##  class i has the pairs at distance i - 1. That there is such a graph it does
+##  not say.
+##
+##  Where no graph on at most 256 points has the array it is rec( refused, at,
+##  hint ): the word of the first test that it fails, the distances at which, and
+##  what it means.
+##
+COHERE_Bind("CohereTable", function(array)
+  local entries, lines, words, found, entry, line;
+  entries := Concatenation(array.b, array.c);
+  if Length(array.b) <> Length(array.c) or not Length(array.b) in [1 .. 32]
+     or not ForAll(entries, it -> it in [1 .. 255]) then
+    COHERE_Error("CohereTable( array ): an array has as many b as c, 1 to 32 of each, from 1 to 255");
+  fi;
+  words := Concatenation(["table"], List(Concatenation([Length(array.b)], entries), String));
+  lines := COHERE_Question(words, "", "CohereTable( array )", "array");
+  if StartsWith(lines[1], "refused ") then
+    found := SplitString(lines[1], " ")[2];
+    return rec(refused := found, at := COHERE_NumbersIn(lines[1]), hint := COHERE_OF_QUESTION.(found));
+  fi;
+  found := rec(points := COHERE_NumbersIn(lines[1])[1]);
+  found.p := List([0 .. Length(array.b)], i -> NullMat(Length(array.b) + 1, Length(array.b) + 1));
+  for line in lines{[2 .. Length(lines)]} do
+    entry := COHERE_Numbers(line) + [1, 1, 1, 0];
+    found.p[entry[1]][entry[2]][entry[3]] := entry[4];
+  od;
+  found.valencies := List([1 .. Length(found.p)], i -> found.p[i][i][1]);
+  return found;
+end);
+
+#############################################################################
+##
+#F  CohereLattice( c ) . . . . . . . . . . . . . . the lattice of all fusions
+#F  CohereMeet( c, i, j )  . . . the coarsest fusion that is finer than i and j
+##
+##  The first is rec( fusions, covers ): the fusions as CohereFusions lists them,
+##  and the pairs [i,j] where fusion i is finer than fusion j, with none between.
+##  The rank is at most 16, and there are at most 300 fusions.
+##
+COHERE_Bind("CohereLattice", function(c)
+  local lines, sizes, numbers;
+  lines := COHERE_Answered(["lattice", "-"], c.text, "CohereLattice( c )", "relation");
+  sizes := COHERE_NumbersIn(lines[1]);
+  numbers := List(lines{[2 .. Length(lines) - 1]}, COHERE_Numbers);
+  return rec(fusions := List(numbers{[1 .. sizes[1]]}, COHERE_Blocks),
+             covers := numbers{[sizes[1] + 1 .. sizes[1] + sizes[2]]} + 1);
+end);
+
+COHERE_Bind("CohereMeet", function(c, i, j)
+  local asked, words;
+  asked := COHERE_Asked("CohereMeet", i, j);
+  if not ForAll([i, j], IsPosInt) then COHERE_Error(asked, ": fusions are numbered from 1"); fi;
+  words := ["lattice", "-", String(i - 1), String(j - 1)];
+  return COHERE_NumbersIn(COHERE_Answered(words, c.text, asked, "relation")[1])[3] + 1;
 end);

@@ -72,15 +72,16 @@ COHERE_Bind("COHERE_OF_TRACE", rec(
   NotCoherent := "the steps end too early: the last partition is not coherent",
   WrongClosure := "the claimed matrix is not this partition, with its classes numbered as they are first met"));
 
-# Of a question beside scripts that is refused: ring, cells, table and lattice. What they name is numbered from 0.
+# Of a question beside scripts that is refused: CohereRing, CohereCells, CohereTable, CohereLattice and CohereMeet. The
+# numbers behind the words of CohereTable are distances, from 0.
 COHERE_Bind("COHERE_OF_QUESTION", rec(
-  NotGroup := "the relation is no table of products with the unit 0: the number at (x, y) is that of the product x y",
-  ColourCount := "ring takes one colour for each element",
+  NotGroup := "this is no table of products with the unit 1, as MultiplicationTable gives one",
+  ColourCount := "there is a colour for each element",
   ColourRange := "colours are 0 to 1048575",
-  BadSet := "cells takes colours of pairs of the relation as it is read: 1 for the edges of a graph",
+  BadSet := "the arcs have colours of pairs of the relation as it is read: 1 for the edges of a graph",
   RankAbove := "this is for at most 16 classes: merge some first (CohereFuse)",
   TooManyFusions := "a lattice has at most 300 fusions; CohereFusions lists more of them",
-  PlaceRange := "there is no such fusion; they are numbered from 0, and lattice without places lists them",
+  PlaceRange := "there is no such fusion; they are numbered from 1, and CohereLattice lists them",
   FirstC := "the first number after the b is c_1, and that is 1",
   Parts := "b_i and c_i are together more than b_0",
   Valency := "no graph has this array: how many points are at distance i would be no whole number",

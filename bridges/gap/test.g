@@ -176,6 +176,165 @@ ExpectError("no session", function() CohereFix(cube, 1); end, "CohereSession( M 
 ExpectError("no colour", function() CohereSet(CohereSession("Dhc"), 1, 1, -1); end, "-1 is no colour");
 ExpectError("absent colour", function() CohereJoin(CohereSession("Dhc"), 1, 9); end, "refused ColourAbsent: ");
 
+# Orbitals of groups
+Generated := function(points, maps)
+  return Group(List(maps, one -> PermList(List(points, it -> Position(points, one(it))))));
+end;
+shrikhande := Generated(Tuples([0 .. 3], 2),
+  [it -> (it + [1, 0]) mod 4, it -> [it[1] - it[2], it[1]] mod 4, Reversed]);
+clebsch := Generated(Filtered(Tuples([0, 1], 5), it -> Sum(it) mod 2 = 0), [it -> (it + [1, 1, 0, 0, 0]) mod 2,
+  it -> it{[2, 3, 4, 5, 1]}, it -> it{[2, 1, 3, 4, 5]}]);
+pairs := Combinations([1 .. 5], 2);
+edges := Filtered(Combinations(pairs, 2), it -> Intersection(it) = []);
+of168 := PSL(2, 7);
+cosets := RightCosets(of168, Normalizer(of168, SylowSubgroup(of168, 3)));
+for row in [["the Petersen graph", [SymmetricGroup(5), pairs, OnSets], 10, 3, 2],
+            ["its edges", [SymmetricGroup(5), edges, OnSetsSets], 15, 4, 4],
+            ["J(8,3)", [SymmetricGroup(8), Combinations([1 .. 8], 3), OnSets], 56, 4, 2],
+            ["PSL(2,7) on 28 points", [of168, cosets, OnRight], 28, 7, 8],
+            ["the Shrikhande graph", [shrikhande], 16, 4, 5],
+            ["the Clebsch graph", [clebsch], 16, 3, 2],
+            ["three orbits", [Group((1, 2, 3), (4, 5)), [1 .. 6]], 6, 12, fail],
+            ["points of any names", [Group((2, 7), (2, 9)), [9, 7, 2]], 3, 2, 1],
+            ["no generator", [Group([], ()), [1, 2]], 2, 4, 2]] do
+  Expect(Concatenation("orbitals of ", row[1]), function()
+    local c, orbits;
+    c := CallFuncList(CohereOrbitals, row[2]);
+    Assert(0, CohereRaw(c) = c.matrix - 1 and CohereClosure(c).matrix = c.matrix);
+    # (12 classes have many fusions)
+    if row[5] = fail then return [c.points, c.rank, fail]; fi;
+    return [c.points, c.rank, Length(CohereFusions(c))];
+  end, row{[3, 4, 5]});
+od;
+Expect("orbitals of each group on 6 points, up to conjugacy", function()
+  return Number(List(ConjugacyClassesSubgroups(SymmetricGroup(6)), Representative), function(group)
+    local c;
+    c := CohereOrbitals(group, [1 .. 6]);
+    # (as many as an element fixes pairs, on the average)
+    return CohereRaw(c) = c.matrix - 1
+      and c.rank * Size(group) = Sum(group, g -> (6 - NrMovedPoints(g))^2);
+  end);
+end, 56);
+Expect("a group is a relation", function()
+  return CohereClosure(shrikhande) = CohereOrbitals(shrikhande, [1 .. 16])
+    and CohereSession(shrikhande).rank = 4 and CohereDirectProduct(cube, Group((1, 2))).points = 16;
+end, true);
+Expect("a group on 256 points", function()
+  return [CohereOrbitals(Group((1, 2), PermList(Concatenation([2 .. 256], [1])))).rank,
+          CohereOrbitals(Group(List([1 .. 128], it -> (2 * it - 1, 2 * it)))).rank];
+end, [2, 2 * 128 + 128 * 127]);
+ExpectError("a trivial group", function() CohereOrbitals(Group(())); end, "moves no point; CohereOrbitals( G, points )");
+ExpectError("points that are moved away", function() CohereOrbitals(Group((1, 2, 3)), [1, 2]); end,
+  "(1,2,3) does not map the list of points to itself");
+ExpectError("points twice", function() CohereOrbitals(Group((1, 2)), [1, 2, 1]); end, "has none twice");
+ExpectError("no group", function() CohereOrbitals([(1, 2)]); end, "this is for a group of permutations");
+ExpectError("a group of matrices", function() CohereOrbitals(GL(2, 2)); end, "CohereOrbitals( G, points, action )");
+ExpectError("a group on 257 points", function() CohereClosure(Group((1, 257))); end, "at most 256 points");
+
+# Closed subsets that classes generate
+Expect("generated closed subsets", function()
+  return List([1, 2, 3, [3, 4], 4], set -> CohereGenerated(cube, set));
+end, [[1], [1 .. 4], [1, 3], [1 .. 4], [1, 4]]);
+Expect("the least of the closed subsets", function()
+  return ForAll([path, cube, CohereOrbitals(CyclicGroup(IsPermGroup, 12))], c -> ForAll([1 .. c.rank],
+    k -> CohereGenerated(c, k) = Intersection(Filtered(CohereClosedSubsets(c), it -> k in it))));
+end, true);
+Expect("a generated closed subset of a high rank", function()
+  local c, set;
+  c := CohereOrbitals(Group(PermList(Concatenation([2 .. 60], [1]))));
+  set := CohereGenerated(c, [13, 21]);
+  return [c.rank, Length(set), CohereQuotient(c, set).points];
+end, [60, 15, 4]);
+ExpectError("no class to generate", function() CohereGenerated(cube, 5); end, "there is no class 5");
+
+# Schur rings
+cyclic := Group((1, 2, 3, 4, 5, 6));
+turn := cyclic.1;
+Expect("a ring", function() return Set(CohereRing(cyclic, [turn, turn^5]), Set); end,
+  Set([[()], [turn, turn^5], [turn^2, turn^4], [turn^3]], Set));
+Expect("a ring that two sets generate", function() return Length(CohereRing(cyclic, [[turn^3], [turn^2, turn^4]])); end, 4);
+Expect("a ring over a table", function()
+  return CohereRing(List([0 .. 5], x -> List([0 .. 5], y -> (x + y) mod 6 + 1)), [2, 6]);
+end, [[1], [2, 6], [3, 5], [4]]);
+Expect("the ring of no set", function() return List(CohereRing(cyclic, []), Length); end, [1, 5]);
+# The classes of a group are basic sets of a ring, and so are the orbits of its automorphisms.
+Expect("rings of classes and of automorphisms", function()
+  return ForAll(Concatenation(List([2 .. 16], n -> AllSmallGroups(n))), function(group)
+    local classes, orbits;
+    classes := Set(ConjugacyClasses(group), AsSet);
+    orbits := Set(Orbits(AutomorphismGroup(group), AsList(group)), Set);
+    return Set(CohereRing(group, classes), Set) = classes and Set(CohereRing(group, orbits), Set) = orbits;
+  end);
+end, true);
+Expect("elements that are matrices", function()
+  local basic;
+  basic := CohereRing(GL(2, 2), Filtered(AsList(GL(2, 2)), it -> Order(it) = 3));
+  return [basic[1], SortedList(List(basic, Length))];
+end, [[One(GL(2, 2))], [1, 2, 3]]);
+Expect("all rings over cyclic groups", function()
+  return List([1 .. 16], function(n)
+    local group;
+    group := CyclicGroup(IsPermGroup, n);
+    return Length(CohereFusions(CohereOrbitals(group, AsList(group), OnRight)));
+  end);
+end, [1, 1, 2, 3, 3, 7, 4, 10, 7, 10, 4, 32, 6, 13, 21, 37]);
+ExpectError("no table of a group", function() CohereRing([[2, 1], [1, 2]], [2]); end,
+  "CohereRing( G, sets ): refused NotGroup: this is no table of products with the unit 1");
+ExpectError("no element", function() CohereRing(cyclic, [(1, 2)]); end, "a set is a list of elements");
+ExpectError("no set", function() CohereRing(cyclic, turn); end, "a set is a list of elements");
+ExpectError("a large group", function() CohereRing(SymmetricGroup(6), [(1, 2)]); end, "order 720");
+
+# Cells
+Expect("cells of a path", function() return CohereCells("FhCGG", 1); end, [[1, 7], [2, 6], [3, 5], [4]]);
+Expect("cells of a configuration", function()
+  return CohereCells(path, CohereClassesOf(path, 1)) = CohereCells("DQc", 1);
+end, true);
+Expect("cells are checked", function() return CohereCheckCells(CohereCellsTrace("Bg", 1)); end,
+  rec(accepted := true, points := 3, cells := 2, steps := 1));
+Expect("cells that are refused", function()
+  return CohereCheckCells(ReplacedString(CohereCellsTrace("Bg", 1), "S 0 0\n", "S 0 0\nS 0 0\n"));
+end, rec(accepted := false, line := 7, word := "IdleStep"));
+ExpectError("no such arcs", function() CohereCells("Bg", [1, 9]); end,
+  "CohereCells( M, [ 1, 9 ] ): refused BadSet: the arcs have colours of pairs");
+ExpectError("no colours", function() CohereCells("Bg", []); end, "colours are a list that is not empty");
+ExpectError("no class", function() CohereCells(cube, 5); end, "there is no class 5");
+ExpectError("a bad graph", function() CohereCells("DQd", 1); end, "relation: PadBits at 2");
+ExpectError("a bad trace of cells", function() CohereCheckCells("trace 1\n"); end, "line 1 Head: a trace of cells begins");
+
+# Tables of arrays
+Expect("a table is that of the graph", function()
+  local table;
+  # (the class of the cube at distance i is i + 1)
+  table := CohereTable(CohereArray(cube, 2));
+  return [table.points, table.valencies, table.p = CohereConstants(cube)];
+end, [8, [1, 3, 3, 1], true]);
+Expect("arrays that are refused", function()
+  return List([[[3], [2]], [[2, 2], [1, 1]], [[5, 3], [1, 4]], [[200, 199], [1, 1]], [[10, 1], [1, 5]],
+               [[4, 3, 1], [1, 2, 3]]], function(it)
+    local table;
+    table := CohereTable(rec(b := it[1], c := it[2]));
+    return [table.refused, table.at, table.hint <> ""];
+  end);
+end, [["FirstC", [], true], ["Parts", [1], true], ["Valency", [2], true], ["TooManyPoints", [2], true],
+      ["Negative", [2, 2, 2], true], ["Division", [2, 2, 1], true]]);
+ExpectError("no array", function() CohereTable(rec(b := [3, 2], c := [1])); end, "as many b as c");
+ExpectError("a large number", function() CohereTable(rec(b := [256], c := [1])); end, "from 1 to 255");
+
+# The lattice of the fusions
+Expect("the lattice of the cube", function() return CohereLattice(cube); end,
+  rec(fusions := CohereFusions(cube), covers := [[2, 1], [3, 1], [4, 2], [4, 3]]));
+Expect("meets", function()
+  return List([[1, 2], [2, 3], [3, 3], [4, 1]], it -> CohereMeet(cube, it[1], it[2]));
+end, [2, 4, 3, 4]);
+ExpectError("no fusion", function() CohereMeet(cube, 1, 5); end,
+  "CohereMeet( c, 1, 5 ): refused PlaceRange: there is no such fusion; they are numbered from 1");
+ExpectError("fusion 0", function() CohereMeet(cube, 0, 1); end, "numbered from 1");
+ExpectError("too many fusions", function()
+  local group;
+  group := ElementaryAbelianGroup(16);
+  CohereLattice(CohereOrbitals(group, AsList(group), OnRight));
+end, "refused TooManyFusions: a lattice has at most 300 fusions");
+
 # Reading the file once more takes what stands in it.
 Expect("read again", function()
   Read(Concatenation(COHERE_HERE, "cohere.g"));

@@ -1,7 +1,10 @@
 """Coherent configurations and association schemes, by the program ``cohere``.
 
 `closure` takes a graph or a matrix of colours, and gives the `Configuration` that is its coherent closure.
+`orbitals` takes permutations, and gives that of the orbits of their group on pairs of points.
 A `Session` keeps a history of edits, and asks over them. `check` judges a certificate of a closure.
+`ring`, `cells` and `table` are questions of their own: Schur rings, equitable partitions (with `check_cells` for
+their certificates) and the parameters of an intersection array.
 
 ``python3 -m gannetdivan each`` answers a script over many graphs, and ``python3 -m gannetdivan draw`` makes
 pictures.
@@ -39,8 +42,11 @@ from .errors import (
     Refused,
     UnreadableAnswer,
 )
+from .groups import orbitals
+from .lattices import Lattice
+from .questions import Cells, Ring, Table, cells, ring, table
 from .session import Session
-from .traces import check
+from .traces import check, check_cells
 
 __version__ = "0.1"
 
@@ -49,6 +55,7 @@ __all__ = [
     "BadRelation",
     "BadScript",
     "BadTrace",
+    "Cells",
     "ClassRow",
     "CohereError",
     "Configuration",
@@ -57,6 +64,7 @@ __all__ = [
     "Edited",
     "IntersectionArray",
     "Irregular",
+    "Lattice",
     "MatrixAnswer",
     "OutOfMemory",
     "Page",
@@ -65,10 +73,17 @@ __all__ = [
     "Raw",
     "Refusal",
     "Refused",
+    "Ring",
     "SchemeTests",
     "Session",
+    "Table",
     "UnreadableAnswer",
     "Verdict",
+    "cells",
     "check",
+    "check_cells",
     "closure",
+    "orbitals",
+    "ring",
+    "table",
 ]

@@ -11,9 +11,10 @@ from array import array
 from bisect import bisect_left, bisect_right
 from dataclasses import dataclass
 from functools import cached_property
-from typing import Any, Callable, Dict, Iterable, Iterator, List, Sequence, Tuple, Union
+from typing import Any, Callable, Dict, Iterable, Iterator, List, Sequence, Tuple, TypeVar, Union
 
-from .errors import UnreadableAnswer
+from . import hints
+from .errors import Refused, UnreadableAnswer
 from .history import words_of
 
 __all__ = [
@@ -24,6 +25,7 @@ __all__ = [
     "Edited",
     "Irregular",
     "IntersectionArray",
+    "Lines",
     "MatrixAnswer",
     "Page",
     "Raw",
@@ -31,11 +33,13 @@ __all__ = [
     "SchemeTests",
     "Verdict",
     "read_answers",
+    "read_question",
     "read_verdict",
 ]
 
 Matrix = List[List[int]]
 Numbers = Tuple[int, ...]
+Answer = TypeVar("Answer")
 
 
 @dataclass(frozen=True)
@@ -266,6 +270,8 @@ class Verdict:
         The first bad line, counted from 1, where it is not.
     word : str or None
         What is wrong with it, as ``IdleStep``.
+    cells : int or None
+        The number of cells that are claimed, where a trace of cells is accepted; such a trace has no rank.
     """
 
     accepted: bool
@@ -274,6 +280,7 @@ class Verdict:
     steps: Union[int, None] = None
     line: Union[int, None] = None
     word: Union[str, None] = None
+    cells: Union[int, None] = None
 
     def __bool__(self) -> bool:
         return self.accepted
@@ -285,7 +292,7 @@ _NO_NUMBER = re.compile("[^0-9 \n]")
 _PIECE = 1 << 22
 
 
-class _Lines:
+class Lines:
     """The lines of a text, taken one by one. A line that does not fit raises ValueError."""
 
     def __init__(self, text: str) -> None:
@@ -371,47 +378,47 @@ def _columns(text: str, start: int, end: int, columns: int) -> List[Any]:
     return [sum(it[1:], it[0]) for it in pieces]
 
 
-def _edited(lines: _Lines) -> Edited:
+def _edited(lines: Lines) -> Edited:
     return Edited(*lines.numbers("ok points N rank N"))
 
 
-def _matrix_under(head: str) -> Callable[[_Lines], MatrixAnswer]:
-    def read(lines: _Lines) -> MatrixAnswer:
+def _matrix_under(head: str) -> Callable[[Lines], MatrixAnswer]:
+    def read(lines: Lines) -> MatrixAnswer:
         points, rank = lines.numbers(f"{head} points N rank N")
         return MatrixAnswer(points, rank, lines.matrix(points))
 
     return read
 
 
-def _raw(lines: _Lines) -> Raw:
+def _raw(lines: Lines) -> Raw:
     points, colours = lines.numbers("raw points N colours N")
     return Raw(points, colours, lines.matrix(points))
 
 
-def _classes(lines: _Lines) -> List[ClassRow]:
+def _classes(lines: Lines) -> List[ClassRow]:
     (rank,) = lines.numbers("classes N")
     return [_class_row(lines) for _ in range(rank)]
 
 
-def _class_row(lines: _Lines) -> ClassRow:
+def _class_row(lines: Lines) -> ClassRow:
     number, size, valency, transpose, x, y, a, b = lines.numbers(
         "class N size N valency N transpose N pair N N fibres N N"
     )
     return ClassRow(number, size, valency, transpose, (x, y), (a, b))
 
 
-def _constants(lines: _Lines) -> Constants:
+def _constants(lines: Lines) -> Constants:
     rank, entries = lines.numbers("constants N entries N")
     i, j, k, number = lines.table(entries, 4)
     return Constants(rank, (i, j, k, number))
 
 
-def _tests(lines: _Lines) -> SchemeTests:
+def _tests(lines: Lines) -> SchemeTests:
     words = "tests homogeneous W symmetric W commutative W thin W primitive W"
     return SchemeTests(*(it == "yes" for it in lines.match(words.replace("W", "(yes|no)"))))
 
 
-def _array(lines: _Lines) -> ArrayAnswer:
+def _array(lines: Lines) -> ArrayAnswer:
     said = lines.take()
     if said.startswith("array disconnected"):
         x, y = map(int, _match("array disconnected N N", said))
@@ -423,19 +430,19 @@ def _array(lines: _Lines) -> ArrayAnswer:
     return IntersectionArray(tuple(map(int, b)), tuple(map(int, c)))
 
 
-def _sets_under(head: str) -> Callable[[_Lines], List[Numbers]]:
-    def read(lines: _Lines) -> List[Numbers]:
+def _sets_under(head: str) -> Callable[[Lines], List[Numbers]]:
+    def read(lines: Lines) -> List[Numbers]:
         lines.match(head)
         return lines.until_end()
 
     return read
 
 
-def _closed_string(lines: _Lines) -> Numbers:
+def _closed_string(lines: Lines) -> Numbers:
     return tuple(_row(lines.match("close (.+)")[0]))
 
 
-def _page(lines: _Lines) -> Page:
+def _page(lines: Lines) -> Page:
     lines.match("mergings")
     strings: List[Numbers] = []
     while True:
@@ -447,16 +454,16 @@ def _page(lines: _Lines) -> Page:
         strings.append(tuple(_row(said)))
 
 
-def _trace(lines: _Lines) -> str:
+def _trace(lines: Lines) -> str:
     (head,) = lines.match("(trace [12])")
     return "".join(f"{it}\n" for it in [head, *iter(lines.take, "end"), "end"])
 
 
-def _graph(lines: _Lines) -> str:
+def _graph(lines: Lines) -> str:
     return lines.match("(?:di)?graph6 (.+)")[0]
 
 
-_READERS: Dict[str, Callable[[_Lines], Any]] = {
+_READERS: Dict[str, Callable[[Lines], Any]] = {
     **dict.fromkeys(
         ["set", "both", "fix", "join", "adopt", "fuse", "direct", "wreath", "undo", "redo"], _edited
     ),
@@ -497,7 +504,7 @@ def read_answers(asked: Iterable[str], text: str) -> List[Any]:
     UnreadableAnswer
         The text is not that of the answers to these lines.
     """
-    lines, answers, line = _Lines(text), [], ""
+    lines, answers, line = Lines(text), [], ""
     try:
         for line in asked:
             words = words_of(line)
@@ -510,14 +517,46 @@ def read_answers(asked: Iterable[str], text: str) -> List[Any]:
     return answers
 
 
-def _answer(word: str, lines: _Lines) -> Any:
+def _answer(word: str, lines: Lines) -> Any:
     if lines.next().startswith("refused "):
         return Refusal(lines.match("refused ([A-Za-z]+)")[0])
     return _READERS[word](lines)
 
 
+def read_question(text: str, asked: str, read: Callable[[Lines], Answer]) -> Answer:
+    """Read the answer to a question beside scripts.
+
+    Parameters
+    ----------
+    text : str
+        What the program printed.
+    asked : str
+        The question, for errors.
+    read : callable
+        What reads the answer where it is no refusal.
+
+    Raises
+    ------
+    Refused
+        The answer is a refusal.
+    UnreadableAnswer
+        It is neither.
+    """
+    lines = Lines(text)
+    try:
+        if lines.next().startswith("refused "):
+            word, numbers = lines.match("refused ([A-Za-z]+)((?: [0-9]+)*)")
+            raise Refused(word, asked, tuple(map(int, numbers.split())), hints.QUESTION)
+        answer = read(lines)
+    except ValueError:
+        raise UnreadableAnswer(f"the program answered {text!r:.1000} to {asked!r:.200}") from None
+    if not lines.is_at_end():
+        raise UnreadableAnswer("the program went on after the answer")
+    return answer
+
+
 def read_verdict(text: str) -> Verdict:
-    """Read what ``cohere check`` prints.
+    """Read what ``cohere check`` or ``cohere check-cells`` prints.
 
     Parameters
     ----------
@@ -535,8 +574,9 @@ def read_verdict(text: str) -> Verdict:
     """
     try:
         if text.startswith("accepted"):
-            points, rank, steps = map(int, _match("accepted points N rank N steps N\n", text))
-            return Verdict(True, points, rank, steps)
+            points, kind, count, steps = _match("accepted points N (rank|cells) N steps N\n", text)
+            counted = {"points": int(points), kind: int(count), "steps": int(steps)}
+            return Verdict(True, **counted)
         line, word = _match("refused line N ([A-Za-z]+)\n", text)
         return Verdict(False, line=int(line), word=word)
     except ValueError:

@@ -22,9 +22,11 @@ from .answers import (
     read_answers,
 )
 from .errors import Refused
+from .lattices import Lattice
 from .program import answers
 from .relations import matrix_text, relation_text
 from .traces import check, trace_line
+from .unions import join, leader
 
 __all__ = ["Classes", "Configuration", "Merging", "closure"]
 
@@ -46,7 +48,8 @@ def closure(relation: Any) -> Configuration:
     ----------
     relation : str, bytes, path, matrix or graph
         A graph6 or digraph6 text; a square matrix of colours, as lists or as a numpy array; a graph or
-        digraph of networkx or Sage; a `pathlib.Path` of a file. `gannetdivan.relations.relation_text` says more.
+        digraph of networkx or Sage; a permutation group of sympy or Sage; a `pathlib.Path` of a file.
+        `gannetdivan.relations.relation_text` says more.
 
     Returns
     -------
@@ -453,6 +456,29 @@ class Configuration:
                 return
             after = got.strings[-1]
 
+    def lattice(self) -> Lattice:
+        """Make the lattice of all fusions: which of them is finer than which.
+
+        Returns
+        -------
+        Lattice
+
+        Raises
+        ------
+        Refused
+            ``RankAbove``: the rank is above 16. ``TooManyFusions``: there are more than 300 fusions.
+
+        Examples
+        --------
+        >>> import gannetdivan
+        >>> lattice = gannetdivan.closure("Gr`HOk").lattice()
+        >>> lattice.covers
+        [(1, 0), (2, 0), (3, 1), (3, 2)]
+        >>> lattice.meet(1, 2)
+        3
+        """
+        return Lattice(self._text)
+
     def fuse(self, merging: Merging) -> Configuration:
         """Merge classes, and close what comes of it.
 
@@ -539,6 +565,46 @@ class Configuration:
             ``BadSet``: a number is no class.
         """
         return self._ask(f"write digraph6 {numbers_text(class_numbers(classes))}")
+
+    def generated(self, classes: Classes) -> Numbers:
+        """Tell the closed subset that classes generate: the least one that has them all.
+
+        This is told from the matrix, so it knows no bound on the rank. Where there is one fibre, `quotient` by it
+        has the program confirm that it is closed.
+
+        Parameters
+        ----------
+        classes : int or iterable of int
+
+        Returns
+        -------
+        tuple of int
+            The classes, rising.
+
+        Raises
+        ------
+        ValueError
+            A number is no class.
+
+        Examples
+        --------
+        >>> import gannetdivan
+        >>> cube = gannetdivan.closure("Gr`HOk")
+        >>> cube.generated(2), cube.generated([2, 3])
+        ((0, 2), (0, 1, 2, 3))
+        """
+        chosen = frozenset(class_numbers(classes))
+        for it in sorted(chosen):
+            if not 0 <= it < self.rank:
+                raise ValueError(f"there is no class {it}: classes are numbered from 0 to {self.rank - 1}")
+        leaders = list(range(self.points))
+        for x, row in enumerate(self.matrix):
+            for y, it in enumerate(row):
+                if it in chosen:
+                    join(leaders, x, y)
+        blocks = [leader(leaders, x) for x in range(self.points)]
+        pairs = ((it, blocks[x] == blocks[y]) for x, row in enumerate(self.matrix) for y, it in enumerate(row))
+        return tuple(sorted({it for it, are_together in pairs if are_together}))
 
     def blocks(self, classes: Classes) -> List[List[int]]:
         """Tell the classes of the equivalence relation that a closed subset is.

@@ -12,6 +12,7 @@ from typing import TYPE_CHECKING, Any, Dict, List, Optional, Tuple, Union
 from .configuration import Classes, Configuration, class_numbers
 from .errors import CohereError
 from .palette import MOST_COLOURS, Group, class_colours, class_groups, ink_on
+from .unions import join, leader
 
 if TYPE_CHECKING:
     from matplotlib.axes import Axes
@@ -123,21 +124,15 @@ def nested_blocks(closure: Configuration) -> List[List[List[int]]]:
 
 def _generated(closure: Configuration) -> List[List[List[int]]]:
     """Tell for each class the partition of the points that it generates: the components of its graph."""
-    parents = [list(range(closure.points)) for _ in range(closure.rank)]
-
-    def root(parent: List[int], x: int) -> int:
-        while parent[x] != x:
-            parent[x] = x = parent[parent[x]]
-        return x
-
+    leaders = [list(range(closure.points)) for _ in range(closure.rank)]
     for x, row in enumerate(closure.matrix):
         for y, it in enumerate(row):
-            parents[it][root(parents[it], x)] = root(parents[it], y)
+            join(leaders[it], x, y)
     partitions = []
-    for parent in parents:
+    for of_class in leaders:
         blocks: Dict[int, List[int]] = {}
         for x in range(closure.points):
-            blocks.setdefault(root(parent, x), []).append(x)
+            blocks.setdefault(leader(of_class, x), []).append(x)
         partitions.append(list(blocks.values()))
     return partitions
 

@@ -7,7 +7,7 @@ is what they most often come of, and a guess.
 from __future__ import annotations
 
 import re
-from typing import Mapping, NamedTuple, Optional
+from typing import Mapping, NamedTuple, Optional, Sequence
 
 from . import hints
 
@@ -129,14 +129,20 @@ class BadTrace(BadInput):
         The line of the trace, counted from 1; None for ``TooLong``.
     """
 
-    def __init__(self, word: str, line: Optional[int], name: str = "trace") -> None:
+    def __init__(
+        self,
+        word: str,
+        line: Optional[int],
+        name: str = "trace",
+        hinted: Mapping[str, str] = hints.TRACE,
+    ) -> None:
         said = f"{name}: " + ("" if line is None else f"line {line} ") + word
-        super().__init__(said, word, hints.TRACE.get(word, ""))
+        super().__init__(said, word, hinted.get(word, ""))
         self.line = line
 
 
 class Refused(CohereError):
-    """The program read a line of a script and refused it, which changes nothing.
+    """The program read a line of a script, or another question, and refused it, which changes nothing.
 
     Attributes
     ----------
@@ -144,13 +150,23 @@ class Refused(CohereError):
         The program's word, such as ``NotClosed``, and what it most often comes of.
     asked : str
         The line that was refused.
+    numbers : tuple of int
+        The numbers behind the word, which `gannetdivan.table` has alone.
     """
 
-    def __init__(self, word: str, asked: str) -> None:
+    def __init__(
+        self,
+        word: str,
+        asked: str,
+        numbers: Sequence[int] = (),
+        hinted: Mapping[str, str] = hints.REFUSED,
+    ) -> None:
         self.word = word
         self.asked = asked
-        self.hint = hints.REFUSED.get(word, "")
-        super().__init__(f"{_cut(asked)}: refused {word}" + (f": {self.hint}" if self.hint else ""))
+        self.numbers = tuple(numbers)
+        self.hint = hinted.get(word, "")
+        said = " ".join(map(str, [word, *self.numbers]))
+        super().__init__(f"{_cut(asked)}: refused {said}" + (f": {self.hint}" if self.hint else ""))
 
 
 def _cut(line: str) -> str:
@@ -175,9 +191,13 @@ class Handed(NamedTuple):
 
 
 def error_of(
-    status: int, said: str, script: str = "script", handed: Optional[Mapping[str, Handed]] = None
+    status: int,
+    said: str,
+    script: str = "script",
+    handed: Optional[Mapping[str, Handed]] = None,
+    of_trace: Optional[Mapping[str, str]] = None,
 ) -> CohereError:
-    """Tell the exception for an exit status of ``cohere run`` or ``cohere check``.
+    """Tell the exception for an exit status of the program.
 
     Parameters
     ----------
@@ -189,6 +209,8 @@ def error_of(
         The name under which the program was handed its script.
     handed : mapping of str to Handed, optional
         What the program was handed, by the names that it was told.
+    of_trace : mapping of str to str, optional
+        The hints of a trace, where the program was handed one, and no relation.
 
     Returns
     -------
@@ -209,6 +231,8 @@ def error_of(
         lines = (text or "").split("\n")
         shown = lines[line - 1] if line is not None and text and line <= len(lines) else None
         return BadScript(word, line, name, shown)
+    if of_trace is not None:
+        return BadTrace(word, line, name, of_trace)
     if line is not None or word in hints.TRACE and word not in hints.RELATION:
         return BadTrace(word, line, name)
     return BadRelation(word, int(fault["place"]) if fault["place"] else None, name, text)

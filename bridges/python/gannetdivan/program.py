@@ -12,7 +12,7 @@ from typing import Mapping, NamedTuple, Optional, Sequence
 
 from .errors import Handed, ProgramMissing, error_of
 
-__all__ = ["Outcome", "answers", "find", "run"]
+__all__ = ["Outcome", "answers", "find", "question", "run"]
 
 _HOW_TO_BUILD = (
     "Build it in a checkout of the repository with 'bin/cohere' (which needs 'rt', the command of the kit "
@@ -169,4 +169,34 @@ def answers(
         handed = {name: Handed((called or {}).get(name, name), text) for name, text in products.items()}
         handed.update({"-": Handed("relation", relation), _SCRIPT: Handed("script", script)})
         raise error_of(ended.status, ended.err, _SCRIPT, handed)
+    return ended.out
+
+
+def question(words: Sequence[str], relation: str = "", called: str = "relation") -> str:
+    """Answer a question beside scripts.
+
+    Parameters
+    ----------
+    words : sequence of str
+        The words of the question, in which ``-`` stands for the relation.
+    relation : str
+        The text of the relation, where there is one.
+    called : str
+        What the user calls it.
+
+    Returns
+    -------
+    str
+        The answer, as it is printed; a refusal is one.
+
+    Raises
+    ------
+    BadRelation
+        The relation is bad.
+    ProgramMissing, ProgramFailed, OutOfMemory
+        The program did not come to its end.
+    """
+    ended = run(words, stdin=relation)
+    if ended.status != 0:
+        raise error_of(ended.status, ended.err, script="", handed={"-": Handed(called, relation)})
     return ended.out

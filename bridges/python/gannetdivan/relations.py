@@ -1,4 +1,4 @@
-"""The text of a relation, made of what users have: texts, matrices, and graphs of networkx and Sage.
+"""The text of a relation, made of what users have: texts, matrices, graphs and groups of networkx, sympy, Sage.
 
 No graph format is written here: graphs are handed on by their own library's methods, and where it has none
 for a graph, as a matrix of colours.
@@ -11,7 +11,9 @@ import os
 from pathlib import Path
 from typing import Any, Iterable, List
 
-__all__ = ["matrix_text", "relation_text"]
+from .permutations import is_group, orbital_matrix
+
+__all__ = ["colour_number", "matrix_text", "relation_text"]
 
 # The colours that the program gives to the pairs of a graph: the diagonal, an edge or arc, any other pair,
 # a loop.
@@ -26,8 +28,8 @@ def relation_text(relation: Any) -> str:
     relation : str, bytes, path, matrix or graph
         A line of graph6 or digraph6, or a matrix in the program's own format (``matrix 2`` and its rows);
         a `pathlib.Path` of a file with one of these in front; a square matrix of N rows of N colours, as
-        lists or as a numpy array; a graph or digraph of networkx or Sage; or a
-        `gannetdivan.Configuration`.
+        lists or as a numpy array; a graph or digraph of networkx or Sage; a permutation group of sympy or
+        Sage, for its orbits on pairs; or a `gannetdivan.Configuration`.
 
     Returns
     -------
@@ -63,11 +65,13 @@ def relation_text(relation: Any) -> str:
         return f"{relation.graph6_string()}\n"
     if _is_of("sage", relation) and hasattr(relation, "dig6_string"):
         return f"&{relation.dig6_string().lstrip('&')}\n"
+    if is_group(relation):
+        return matrix_text(orbital_matrix(relation))
     if hasattr(relation, "tolist"):
         relation = relation.tolist()
     if isinstance(relation, Iterable):
         return matrix_text(relation)
-    raise TypeError(f"a relation is a text, a matrix or a graph, and no {type(relation).__name__}")
+    raise TypeError(f"a relation is a text, a matrix, a graph or a group, and no {type(relation).__name__}")
 
 
 def matrix_text(rows: Iterable[Iterable[Any]]) -> str:
@@ -94,7 +98,7 @@ def matrix_text(rows: Iterable[Iterable[Any]]) -> str:
     for x, row in enumerate(rows):
         if isinstance(row, (str, bytes)) or not isinstance(row, Iterable):
             raise TypeError(f"row {x} of a matrix of colours is a list of integers, and no {type(row).__name__}")
-        matrix.append([_colour(it) for it in row])
+        matrix.append([colour_number(it) for it in row])
     for x, row in enumerate(matrix):
         if len(row) != len(matrix):
             raise ValueError(f"a matrix of colours is square: row {x} of {len(matrix)} has {len(row)} entries")
@@ -102,7 +106,8 @@ def matrix_text(rows: Iterable[Iterable[Any]]) -> str:
     return "".join(f"{line}\n" for line in lines)
 
 
-def _colour(entry: Any) -> int:
+def colour_number(entry: Any) -> int:
+    """Tell an entry of a matrix of colours, or one colour, as an int."""
     # (adjacency matrices are often of floats)
     if isinstance(entry, float) and entry.is_integer():
         entry = int(entry)

@@ -1,4 +1,4 @@
-"""The closure by its definition, plain and slow: what the tests compare the program with.
+"""The closure by its definition, and its neighbours, plain and slow: what the tests compare the program with.
 
 It shares nothing with the package, nor with the program.
 """
@@ -57,3 +57,38 @@ def growth_strings(length):
 def fusions(matrix):
     rank = 1 + max(map(max, matrix))
     return [it for it in growth_strings(rank) if is_coherent([[it[c] for c in row] for row in matrix])]
+
+
+def elements(generators):
+    """List the elements of a group of permutations, each as the tuple of its images."""
+    found = {tuple(range(len(generators[0])))}
+    fresh = list(found)
+    while fresh:
+        fresh = list({tuple(one[it] for it in element) for element in fresh for one in generators} - found)
+        found.update(fresh)
+    return found
+
+
+def cells(matrix):
+    """Refine the partition with one cell by arcs, which have the colour 1, and name it as cells are first met."""
+    points = range(len(matrix))
+    numbers = [0] * len(matrix)
+    while True:
+        counted = [(numbers[x], sorted(numbers[y] for y in points if matrix[x][y] == 1)) for x in points]
+        finer = [counted.index(it) for it in counted]
+        if len(set(finer)) == len(set(numbers)):
+            return tuple(sorted(set(finer)).index(it) for it in finer)
+        numbers = finer
+
+
+def is_finer(one, other):
+    """Tell whether classes that one growth string merges are merged by the other too."""
+    places = range(len(one))
+    return all(other[i] == other[j] for i in places for j in places if one[i] == one[j])
+
+
+def covers(fusions):
+    """List the pairs of places of growth strings, one finer than the other with none between."""
+    places = range(len(fusions))
+    finer = {(i, j) for i in places for j in places if i != j and is_finer(fusions[i], fusions[j])}
+    return sorted((i, j) for i, j in finer if not any((i, k) in finer and (k, j) in finer for k in places))

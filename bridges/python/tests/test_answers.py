@@ -133,6 +133,7 @@ class Answers(unittest.TestCase):
         accepted = read_verdict("accepted points 2 rank 4 steps 1\n")
         self.assertEqual(accepted, Verdict(True, points=2, rank=4, steps=1))
         self.assertTrue(accepted)
+        self.assertEqual(read_verdict("accepted points 3 cells 2 steps 1\n"), Verdict(True, 3, steps=1, cells=2))
         refused = read_verdict("refused line 7 IdleStep\n")
         self.assertEqual(refused, Verdict(False, line=7, word="IdleStep"))
         self.assertFalse(refused)

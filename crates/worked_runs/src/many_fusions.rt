@@ -18,21 +18,37 @@ const GRAPHS: [File<'static>; 3] = [
 ];
 
 // Of the places that are neither 0 nor the last one, the common refinements are no fusions.
-const ROWS: [Question<'static>; 9] = [
+const FULL: [Question<'static>; 3] = [
     ("lattice Full 299 0", b"common 299 0 299\n"),
     ("lattice Full 12 3", b"common 12 3 93\n"),
-    ("lattice Full 9 1", b"common 9 1 251\n"),
     ("lattice Full 0 300", b"refused PlaceRange\n"),
-    ("lattice Dihedral 0 246", b"common 0 246 246\n"),
-    ("lattice Dihedral 137 5", b"common 137 5 239\n"),
-    ("lattice Dihedral 247 0", b"refused PlaceRange\n"),
-    ("lattice Past", b"refused TooManyFusions\n"),
-    ("lattice Past 0 300", b"refused TooManyFusions\n"),
 ];
 
 #[test]
-fn many_fusions(rt: HostRuntime) -> Result<(), Fail> {
-    all_questions_answer(&rt, rt.alloc(), &GRAPHS, &ROWS)
+fn as_many_fusions_as_may_be(rt: HostRuntime) -> Result<(), Fail> {
+    all_questions_answer(&rt, rt.alloc(), &GRAPHS, &FULL)
+}
+
+const DIHEDRAL: [Question<'static>; 3] = [
+    ("lattice Dihedral 0 246", b"common 0 246 246\n"),
+    ("lattice Dihedral 137 5", b"common 137 5 239\n"),
+    ("lattice Dihedral 247 0", b"refused PlaceRange\n"),
+];
+
+#[test]
+fn fusions_of_a_dihedral_group(rt: HostRuntime) -> Result<(), Fail> {
+    all_questions_answer(&rt, rt.alloc(), &GRAPHS, &DIHEDRAL)
+}
+
+// Too many are told before places that no fusion has.
+const PAST: [Question<'static>; 2] = [
+    ("lattice Past", b"refused TooManyFusions\n"),
+    ("lattice Past 0 322", b"refused TooManyFusions\n"),
+];
+
+#[test]
+fn more_fusions_than_may_be(rt: HostRuntime) -> Result<(), Fail> {
+    all_questions_answer(&rt, rt.alloc(), &GRAPHS, &PAST)
 }
 
 // The lattice of that graph is written: it begins with this line, and has so many lines.

@@ -81,7 +81,8 @@ fn put_products(alloc: Global, text: &mut Vec<u8>, x: u32, order: u32) -> Result
             product = 0;
         }
     }
-    text.push(b'\n')
+    text.push(b'\n')?;
+    Ok(())
 }
 
 /// The table of products of the cyclic group of that order.
@@ -132,7 +133,8 @@ fn put_point(text: &mut Vec<u8>, a: u32, b: u32) -> Result<(), AllocError> {
     for c in 0..7 {
         put_column(text, upwards(a, c), b)?;
     }
-    text.push(b'\n')
+    text.push(b'\n')?;
+    Ok(())
 }
 
 /// The matrix of the plane over seven elements, with the points (a, b) row by row: two points of one

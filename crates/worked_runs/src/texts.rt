@@ -137,7 +137,7 @@ fn put_point(text: &mut Vec<u8>, a: u32, b: u32) -> Result<(), AllocError> {
     Ok(())
 }
 
-/// The matrix of the plane over seven elements, with the points (a, b) row by row: two points of one
+/// The matrix of the plane over seven elements, with the points (a, b) by a and then b: two points of one
 /// column have the colour 8, and any other two the colour 1 + s, where s is the slope of their line.
 pub(crate) fn plane_of_7(alloc: Global) -> Result<Vec<u8>, AllocError> {
     let mut text = Vec::from_slice(alloc, b"matrix 49\n")?;

@@ -8,12 +8,16 @@
 //! * `judged_traces`: claims that are accepted or not; `trace_faults`: files that are no trace.
 //! * `shown_traces`, `shown_rounds`: traces that are shown, each put through a check by `showing`.
 //! * `demonstrations`: the demonstration of a number.
+//! * `ring_form`, `table_form`, `lattice_form`: questions beside scripts, most of them by `asking`;
+//!   `many_fusions`: lattices near the greatest number of fusions.
 //! * `limits`: each limit at its last number and one past it.
 //! * `failing_reads`, `failing_writes`, `failing_errors`: stores and sinks that fail at each call of
 //!   the tasks of `tasks`.
 //! * `refusing_visitors`, `other_visitors`: visitors that refuse, and one of the tests' own.
 #![tactic(auto)]
 
+#[cfg(test)]
+mod asking;
 #[cfg(test)]
 mod closed_sets;
 #[cfg(test)]
@@ -31,7 +35,11 @@ mod histories;
 #[cfg(test)]
 mod judged_traces;
 #[cfg(test)]
+mod lattice_form;
+#[cfg(test)]
 mod limits;
+#[cfg(test)]
+mod many_fusions;
 #[cfg(test)]
 mod other_visitors;
 #[cfg(test)]
@@ -43,6 +51,8 @@ mod refusing_visitors;
 #[cfg(test)]
 mod relations;
 #[cfg(test)]
+mod ring_form;
+#[cfg(test)]
 mod runs;
 #[cfg(test)]
 mod script_faults;
@@ -52,6 +62,8 @@ mod showing;
 mod shown_rounds;
 #[cfg(test)]
 mod shown_traces;
+#[cfg(test)]
+mod table_form;
 #[cfg(test)]
 mod tasks;
 #[cfg(test)]

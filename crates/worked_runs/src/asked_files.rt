@@ -1,7 +1,7 @@
 //! The files of each form: which are loaded, in which order they are judged, and the first bad one.
 //! For a store in memory `-` is a name as any other.
 
-use crate::cells_form::{CELLS, CELLS_YES};
+use crate::judged_cells::{CELLS, CELLS_YES};
 use crate::judged_traces::{TRACE, YES};
 use crate::runs::{Answered, RUN, Told, all_answer, all_tell, ends_over, told};
 use crate::usage::fits_no_form;
@@ -12,7 +12,7 @@ use std::test::Fail;
 
 // Words, the name of the file that is loaded first, a text that it may not have, and what is told of
 // it.
-type Loaded<'a> = (&'a [&'a str], &'a str, &'a [u8], &'a str);
+type FirstFile<'a> = (&'a [&'a str], &'a str, &'a [u8], &'a str);
 
 // Graphs with padding that is not zero: the line after the first is not read.
 const GRAPHS: &[u8] = b"DQd\nA_\n";
@@ -21,10 +21,10 @@ const WRONG: &str = "PadBits at 2";
 
 // The first file of each form, by a name and as `-`. It is judged before a question that would be
 // refused.
-const LOADED: [Loaded<'static>; 14] = [
+const FIRST_FILES: [FirstFile<'static>; 14] = [
     (&RUN, "R", GRAPHS, WRONG),
     (&["run", "-", "S"], "-", GRAPHS, WRONG),
-    (&["run", "R", "-", "2"], "R", GRAPHS, "NoLine at 4"),
+    (&["run", "R", "-", "2"], "R", b"A_\n", "NoLine at 3"),
     (&["check", "T"], "T", GRAPHS, "line 1 Head"),
     (&["check", "-"], "-", GRAPHS, "line 1 Head"),
     (&["ring", "G", "2000000"], "G", GRAPHS, WRONG),
@@ -56,7 +56,7 @@ fn is_named_where_bad(
     rt: &impl Abort,
     alloc: Global,
     row: usize,
-    loaded: Loaded<'_>,
+    loaded: FirstFile<'_>,
 ) -> Result<(), Fail> {
     let (words, name, text, wrong) = loaded;
     let line = format!(in alloc; "cohere: {name}: {wrong}\n")?;
@@ -66,7 +66,7 @@ fn is_named_where_bad(
 
 #[test]
 fn first_files_of_the_forms(rt: HostRuntime) -> Result<(), Fail> {
-    for (row, loaded) in LOADED.iter().enumerate() {
+    for (row, loaded) in FIRST_FILES.iter().enumerate() {
         is_named_where_missing(&rt, rt.alloc(), row, loaded.0, loaded.1)?;
         is_named_where_bad(&rt, rt.alloc(), row, *loaded)?;
     }

@@ -1,6 +1,6 @@
 //! Files that are no trace of cells.
 
-use crate::cells_form::{CELLS, CHECK_CELLS, Change, changed_ends};
+use crate::judged_cells::{CELLS, CHECK_CELLS, Change, changed_ends};
 use crate::runs::{Told, all_tell, ends_over, told};
 use crate::texts::padded;
 use cohere_core::Status;

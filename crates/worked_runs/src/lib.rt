@@ -5,8 +5,8 @@
 //! * `usage`: words that fit no form.
 //! * `relations`, `histories`, `queries`, `closed_sets`, `fusion_lists`, `product_lines`: scripts
 //!   that are answered, by what they are about; `script_faults`: texts that are none.
-//! * `cells_form`: cells, and claims of them that are judged; `cell_trace_faults`: files that are no
-//!   trace of cells.
+//! * `cells_form`: cells, each trace of them put through a check; `judged_cells`: claims of cells that
+//!   are accepted or not; `cell_trace_faults`: files that are no trace of cells.
 //! * `asked_files`: which files each form loads, and the first bad one.
 //! * `judged_traces`: claims that are accepted or not; `trace_faults`: files that are no trace.
 //! * `shown_traces`, `shown_rounds`: traces that are shown, each put through a check by `showing`.
@@ -37,6 +37,8 @@ mod failing_writes;
 mod fusion_lists;
 #[cfg(test)]
 mod histories;
+#[cfg(test)]
+mod judged_cells;
 #[cfg(test)]
 mod judged_traces;
 #[cfg(test)]

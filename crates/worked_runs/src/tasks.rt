@@ -1,6 +1,7 @@
 //! Tasks of each form whose reads and writes fail in turn.
 
-use crate::cells_form::{CELLS, CELLS_OF, CELLS_YES, CHECK_CELLS};
+use crate::cells_form::CELLS_OF;
+use crate::judged_cells::{CELLS, CELLS_YES, CHECK_CELLS};
 use crate::judged_traces::{TRACE, YES};
 use crate::runs::{CHECK, File, RUN};
 use cohere_core::Status;

@@ -3,8 +3,7 @@
 
 use crate::runs::{File, ends, failing_store, told, wrote};
 use crate::tasks::{
-    ACCEPTED, ANSWERS, BAD_SET, CELLS_ACCEPTED, CELLS_ANSWER, CELLS_REFUSED, COMMON, LATTICE,
-    PRODUCTS, REFUSED, RING, SEVEN, TABLE, Task, joined,
+    ACCEPTED, ANSWERS, CELL_CHECKS, PRODUCTS, QUESTIONS, REFUSED, SEVEN, TABLE, Task, joined,
 };
 use cohere_core::Status;
 use scheme_io::MemoryStore;
@@ -120,18 +119,18 @@ fn reads_of_traces_that_fail(rt: HostRuntime) -> Result<(), Fail> {
 
 #[test]
 fn reads_of_questions_that_fail(rt: HostRuntime) -> Result<(), Fail> {
-    for task in [RING, CELLS_ANSWER, BAD_SET, LATTICE, COMMON] {
-        fails_at_each_call(&rt, rt.alloc(), &task, false)?;
-        fails_at_each_call(&rt, rt.alloc(), &task, true)?;
+    for task in &QUESTIONS {
+        fails_at_each_call(&rt, rt.alloc(), task, false)?;
+        fails_at_each_call(&rt, rt.alloc(), task, true)?;
     }
     Ok(())
 }
 
 #[test]
 fn reads_of_traces_of_cells_that_fail(rt: HostRuntime) -> Result<(), Fail> {
-    for task in [CELLS_ACCEPTED, CELLS_REFUSED] {
-        fails_at_each_call(&rt, rt.alloc(), &task, false)?;
-        fails_at_each_call(&rt, rt.alloc(), &task, true)?;
+    for task in &CELL_CHECKS {
+        fails_at_each_call(&rt, rt.alloc(), task, false)?;
+        fails_at_each_call(&rt, rt.alloc(), task, true)?;
     }
     Ok(())
 }

@@ -3,8 +3,7 @@
 
 use crate::runs::{ends_to, store_of, wrote};
 use crate::tasks::{
-    ACCEPTED, ANSWERS, BAD_SET, CELLS_ACCEPTED, CELLS_ANSWER, CELLS_REFUSED, COMMON, LATTICE,
-    PRODUCTS, REFUSED, RING, SEVEN, TABLE, Task, joined,
+    ACCEPTED, ANSWERS, CELL_CHECKS, PRODUCTS, QUESTIONS, REFUSED, SEVEN, TABLE, Task, joined,
 };
 use cohere_core::Status;
 use scheme_io::MemorySink;
@@ -119,18 +118,16 @@ fn writes_of_a_demonstration_that_fail(rt: HostRuntime) -> Result<(), Fail> {
 
 #[test]
 fn writes_of_answers_to_questions_that_fail(rt: HostRuntime) -> Result<(), Fail> {
-    for task in [RING, CELLS_ANSWER, BAD_SET, TABLE, LATTICE, COMMON] {
-        is_cut_at_each_answer(&rt, rt.alloc(), &task)?;
-        is_cut_at_each_byte(&rt, rt.alloc(), &task)?;
+    for task in &QUESTIONS {
+        is_cut_at_each_byte(&rt, rt.alloc(), task)?;
     }
-    Ok(())
+    is_cut_at_each_byte(&rt, rt.alloc(), &TABLE)
 }
 
 #[test]
 fn writes_of_verdicts_on_cells_that_fail(rt: HostRuntime) -> Result<(), Fail> {
-    for task in [CELLS_ACCEPTED, CELLS_REFUSED] {
-        is_cut_at_each_answer(&rt, rt.alloc(), &task)?;
-        is_cut_at_each_byte(&rt, rt.alloc(), &task)?;
+    for task in &CELL_CHECKS {
+        is_cut_at_each_byte(&rt, rt.alloc(), task)?;
     }
     Ok(())
 }

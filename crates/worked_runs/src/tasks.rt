@@ -89,40 +89,30 @@ pub(crate) const SEVEN: Task<'static> = (
     ],
 );
 
-/// The Schur ring of a colouring of the cyclic group of four elements.
-pub(crate) const RING: Task<'static> = (
+// The Schur ring of a colouring of the cyclic group of four elements.
+const RING: Task<'static> = (
     &["ring", "G", "0", "1", "2", "1"],
     &[("G", b"matrix 4\n0 1 2 3\n1 2 3 0\n2 3 0 1\n3 0 1 2\n")],
     Status::Done,
     &[b"ring points 4 rank 3\n0 1 2 1\n"],
 );
 
-/// The cells of a path of three points.
-pub(crate) const CELLS_ANSWER: Task<'static> = (
-    &CELLS_OF,
-    &[("R", b"Bg\n")],
-    Status::Done,
-    &[CELLS],
-);
+// The cells of a path of three points.
+const CELLS_ANSWER: Task<'static> = (&CELLS_OF, &[("R", b"Bg\n")], Status::Done, &[CELLS]);
 
-/// A question about cells that is refused.
-pub(crate) const BAD_SET: Task<'static> = (
+// A question about cells that is refused.
+const BAD_SET: Task<'static> = (
     &["cells", "R", "9"],
     &[("R", b"Bg\n")],
     Status::Done,
     &[b"refused BadSet\n"],
 );
 
-/// A check of a claim of cells that is accepted.
-pub(crate) const CELLS_ACCEPTED: Task<'static> = (
-    &CHECK_CELLS,
-    &[("T", CELLS)],
-    Status::Done,
-    &[CELLS_YES],
-);
+// A check of a claim of cells that is accepted.
+const CELLS_ACCEPTED: Task<'static> = (&CHECK_CELLS, &[("T", CELLS)], Status::Done, &[CELLS_YES]);
 
-/// A check of a claim of cells that is not.
-pub(crate) const CELLS_REFUSED: Task<'static> = (
+// A check of a claim of cells that is not.
+const CELLS_REFUSED: Task<'static> = (
     &CHECK_CELLS,
     &[(
         "T",
@@ -131,6 +121,40 @@ pub(crate) const CELLS_REFUSED: Task<'static> = (
     Status::CheckedNo,
     &[b"refused line 6 NotEquitable\n"],
 );
+
+// The lattice of the fusions of the 3-cube.
+const LATTICE: Task<'static> = (
+    &["lattice", "R"],
+    &[("R", CUBE)],
+    Status::Done,
+    &[
+        b"lattice fusions 4 covers 4
+0 1 1 1
+0 1 1 2
+0 1 2 1
+0 1 2 3
+1 0
+2 0
+3 1
+3 2
+end
+",
+    ],
+);
+
+// What two of these fusions have in common.
+const COMMON: Task<'static> = (
+    &["lattice", "R", "1", "2"],
+    &[("R", CUBE)],
+    Status::Done,
+    &[b"common 1 2 3\n"],
+);
+
+/// Questions about a relation.
+pub(crate) const QUESTIONS: [Task<'static>; 5] = [RING, CELLS_ANSWER, BAD_SET, LATTICE, COMMON];
+
+/// Checks of claims of cells.
+pub(crate) const CELL_CHECKS: [Task<'static>; 2] = [CELLS_ACCEPTED, CELLS_REFUSED];
 
 /// The table of the array of the 5-cycle, which reads nothing.
 pub(crate) const TABLE: Task<'static> = (
@@ -154,34 +178,6 @@ pub(crate) const TABLE: Task<'static> = (
 2 1 2 1
 ",
     ],
-);
-
-/// The lattice of the fusions of the 3-cube.
-pub(crate) const LATTICE: Task<'static> = (
-    &["lattice", "R"],
-    &[("R", CUBE)],
-    Status::Done,
-    &[
-        b"lattice fusions 4 covers 4
-0 1 1 1
-0 1 1 2
-0 1 2 1
-0 1 2 3
-1 0
-2 0
-3 1
-3 2
-end
-",
-    ],
-);
-
-/// What two of these fusions have in common.
-pub(crate) const COMMON: Task<'static> = (
-    &["lattice", "R", "1", "2"],
-    &[("R", CUBE)],
-    Status::Done,
-    &[b"common 1 2 3\n"],
 );
 
 /// The answers, one after the other.

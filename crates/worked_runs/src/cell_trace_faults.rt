@@ -130,24 +130,17 @@ fn a_trace_of_cells_that_is_not_there(rt: HostRuntime) -> Result<(), Fail> {
     all_tell(&rt, rt.alloc(), &[row])
 }
 
+// A file of so many bytes that begins with the text is bad.
+fn file_of(rt: &impl Abort, alloc: Global, size: usize, line: &[u8]) -> Result<(), Fail> {
+    let file = padded(alloc, CELLS, size)?;
+    let files = [("T", file.as_slice())];
+    let bad = told(Status::BadInput, line);
+    ends_over(rt, alloc, size, &CHECK_CELLS, &files, bad)
+}
+
 // As many bytes as there may be, and one more.
 #[test]
 fn limits_of_traces_of_cells(rt: HostRuntime) -> Result<(), Fail> {
-    let within = padded(rt.alloc(), CELLS, 1_048_576)?;
-    let past = padded(rt.alloc(), CELLS, 1_048_577)?;
-    let rows: [Told<'_>; 2] = [
-        (
-            &CHECK_CELLS,
-            &[("T", &within)],
-            Status::BadInput,
-            b"cohere: T: line 10 Extra\n",
-        ),
-        (
-            &CHECK_CELLS,
-            &[("T", &past)],
-            Status::BadInput,
-            b"cohere: T: TooLong\n",
-        ),
-    ];
-    all_tell(&rt, rt.alloc(), &rows)
+    file_of(&rt, rt.alloc(), 1_048_576, b"cohere: T: line 10 Extra\n")?;
+    file_of(&rt, rt.alloc(), 1_048_577, b"cohere: T: TooLong\n")
 }

@@ -40,6 +40,42 @@ const ROWS: [Told<'static>; 5] = [
     ),
 ];
 
+// Questions: the table is not there, a relation and a trace of cells are bad, the visitor refuses its
+// first fusion, and the words lack a number.
+const QUESTIONS: [Told<'static>; 6] = [
+    (
+        &["ring", "G", "0"],
+        &[],
+        Status::StoreFailed,
+        b"cohere: cannot read G\n",
+    ),
+    (
+        &["cells", "R", "1"],
+        &[("R", b"DQd\n")],
+        Status::BadInput,
+        b"cohere: R: PadBits at 2\n",
+    ),
+    (
+        &["check-cells", "T"],
+        &[("T", b"cells 2\n")],
+        Status::BadInput,
+        b"cohere: T: line 1 Head\n",
+    ),
+    (
+        &["lattice", "R"],
+        &[("R", CUBE)],
+        Status::NoMemory,
+        b"cohere: out of memory\n",
+    ),
+    (
+        &["lattice", "R", "0", "0"],
+        &[("R", CUBE)],
+        Status::NoMemory,
+        b"cohere: out of memory\n",
+    ),
+    (&["table", "2", "2", "1", "1"], &[], Status::Usage, USAGE),
+];
+
 // A run ends with the status, and says this much on the stream. The visitor refuses every entry.
 fn says(
     rt: &impl Abort,
@@ -101,6 +137,14 @@ fn says_each_front(rt: &impl Abort, alloc: Global, row: &Told<'_>) -> Result<(),
 #[test]
 fn errors_that_fail(rt: HostRuntime) -> Result<(), Fail> {
     for row in ROWS {
+        says_each_front(&rt, rt.alloc(), &row)?;
+    }
+    Ok(())
+}
+
+#[test]
+fn errors_of_questions_that_fail(rt: HostRuntime) -> Result<(), Fail> {
+    for row in QUESTIONS {
         says_each_front(&rt, rt.alloc(), &row)?;
     }
     Ok(())

@@ -2,7 +2,9 @@
 //! told to be wanting. Files come whole, and in pieces of one byte.
 
 use crate::runs::{File, ends, failing_store, told, wrote};
-use crate::tasks::{ACCEPTED, ANSWERS, PRODUCTS, REFUSED, SEVEN, Task, joined};
+use crate::tasks::{
+    ACCEPTED, ANSWERS, CELL_CHECKS, PRODUCTS, QUESTIONS, REFUSED, SEVEN, TABLE, Task, joined,
+};
 use cohere_core::Status;
 use scheme_io::MemoryStore;
 use std::alloc::Global;
@@ -115,8 +117,27 @@ fn reads_of_traces_that_fail(rt: HostRuntime) -> Result<(), Fail> {
     Ok(())
 }
 
-// It has no call that could fail.
 #[test]
-fn a_demonstration_that_reads_nothing(rt: HostRuntime) -> Result<(), Fail> {
-    fails_at_each_call(&rt, rt.alloc(), &SEVEN, false)
+fn reads_of_questions_that_fail(rt: HostRuntime) -> Result<(), Fail> {
+    for task in &QUESTIONS {
+        fails_at_each_call(&rt, rt.alloc(), task, false)?;
+        fails_at_each_call(&rt, rt.alloc(), task, true)?;
+    }
+    Ok(())
+}
+
+#[test]
+fn reads_of_traces_of_cells_that_fail(rt: HostRuntime) -> Result<(), Fail> {
+    for task in &CELL_CHECKS {
+        fails_at_each_call(&rt, rt.alloc(), task, false)?;
+        fails_at_each_call(&rt, rt.alloc(), task, true)?;
+    }
+    Ok(())
+}
+
+// They have no call that could fail.
+#[test]
+fn a_demonstration_and_a_table_that_read_nothing(rt: HostRuntime) -> Result<(), Fail> {
+    fails_at_each_call(&rt, rt.alloc(), &SEVEN, false)?;
+    fails_at_each_call(&rt, rt.alloc(), &TABLE, false)
 }

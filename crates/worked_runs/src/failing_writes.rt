@@ -1,8 +1,10 @@
-//! Outputs that fail, at each call in turn and where they are full: a front of the answers is
-//! written and nothing is said, so that no memory is told to be wanting.
+//! Outputs that fail, at each call in turn and where they are full: a front of the answers, and never
+//! all of them, is written and nothing is said, so that no memory is told to be wanting.
 
 use crate::runs::{ends_to, store_of, wrote};
-use crate::tasks::{ACCEPTED, ANSWERS, PRODUCTS, REFUSED, SEVEN, Task, joined};
+use crate::tasks::{
+    ACCEPTED, ANSWERS, CELL_CHECKS, PRODUCTS, QUESTIONS, REFUSED, SEVEN, TABLE, Task, joined,
+};
 use cohere_core::Status;
 use scheme_io::MemorySink;
 use std::alloc::Global;
@@ -17,6 +19,20 @@ struct Failing {
     call: u32,
 }
 
+// The front is one of the answers of the task, and shorter than they are.
+fn is_proper_front(
+    rt: &impl Abort,
+    alloc: Global,
+    task: &Task<'_>,
+    front: &[u8],
+) -> Result<(), Fail> {
+    let (_, _, _, pieces) = task;
+    let text = joined(alloc, pieces)?;
+    assert_eq!(rt; text.starts_with(front), true);
+    assert_eq!(rt; front.len() < text.len(), true);
+    Ok(())
+}
+
 // The answers of the task are cut short by the output.
 fn is_cut(
     rt: &impl Abort,
@@ -26,6 +42,7 @@ fn is_cut(
     front: &[u8],
 ) -> Result<(), Fail> {
     let (words, files, _, _) = task;
+    is_proper_front(rt, alloc, task, front)?;
     assert!(rt; failing.most >= 1);
     let mut store = store_of(alloc, files)?;
     let mut out = MemorySink::new(alloc, failing.most, failing.room)?;
@@ -97,6 +114,22 @@ fn writes_of_verdicts_that_fail(rt: HostRuntime) -> Result<(), Fail> {
 #[test]
 fn writes_of_a_demonstration_that_fail(rt: HostRuntime) -> Result<(), Fail> {
     is_cut_at_each_answer(&rt, rt.alloc(), &SEVEN)
+}
+
+#[test]
+fn writes_of_answers_to_questions_that_fail(rt: HostRuntime) -> Result<(), Fail> {
+    for task in &QUESTIONS {
+        is_cut_at_each_byte(&rt, rt.alloc(), task)?;
+    }
+    is_cut_at_each_byte(&rt, rt.alloc(), &TABLE)
+}
+
+#[test]
+fn writes_of_verdicts_on_cells_that_fail(rt: HostRuntime) -> Result<(), Fail> {
+    for task in &CELL_CHECKS {
+        is_cut_at_each_byte(&rt, rt.alloc(), task)?;
+    }
+    Ok(())
 }
 
 // Tasks, outputs that take some bytes a call and fail at a call, and the fronts that they leave.

@@ -5,6 +5,9 @@
 //! * `usage`: words that fit no form.
 //! * `relations`, `histories`, `queries`, `closed_sets`, `fusion_lists`, `product_lines`: scripts
 //!   that are answered, by what they are about; `script_faults`: texts that are none.
+//! * `cells_form`: cells, each trace of them put through a check; `judged_cells`: claims of cells that
+//!   are accepted or not; `cell_trace_faults`: files that are no trace of cells.
+//! * `asked_files`: which files each form loads, and the first bad one.
 //! * `judged_traces`: claims that are accepted or not; `trace_faults`: files that are no trace.
 //! * `shown_traces`, `shown_rounds`: traces that are shown, each put through a check by `showing`.
 //! * `demonstrations`: the demonstration of a number.
@@ -17,7 +20,13 @@
 #![tactic(auto)]
 
 #[cfg(test)]
+mod asked_files;
+#[cfg(test)]
 mod asking;
+#[cfg(test)]
+mod cell_trace_faults;
+#[cfg(test)]
+mod cells_form;
 #[cfg(test)]
 mod closed_sets;
 #[cfg(test)]
@@ -32,6 +41,8 @@ mod failing_writes;
 mod fusion_lists;
 #[cfg(test)]
 mod histories;
+#[cfg(test)]
+mod judged_cells;
 #[cfg(test)]
 mod judged_traces;
 #[cfg(test)]

@@ -11,8 +11,8 @@ use std::test::Fail;
 /// check. A text is whole where it ends with a line end, and else a front.
 pub(crate) type Shown<'a> = (&'a [u8], &'a [u8], &'a [u8], &'a [u8]);
 
-// What the program writes for these words, when it ends with this status.
-fn written(
+/// What the program writes for these words, when it ends with this status.
+pub(crate) fn written(
     rt: &impl Abort,
     alloc: Global,
     store: &mut MemoryStore,
@@ -70,8 +70,8 @@ fn checked(rt: &impl Abort, alloc: Global, trace: &[u8]) -> Result<Vec<u8>, Fail
     Ok(text)
 }
 
-// Whether a text is the wanted one, whole or a front.
-fn fits(text: &[u8], wanted: &[u8]) -> bool {
+/// Whether a text is the wanted one: whole where that ends with a line end, and else a front.
+pub(crate) fn fits(text: &[u8], wanted: &[u8]) -> bool {
     if wanted.ends_with(b"\n") {
         text == wanted
     } else {

@@ -1,5 +1,7 @@
 //! Tasks of each form whose reads and writes fail in turn.
 
+use crate::cells_form::CELLS_OF;
+use crate::judged_cells::{CELLS, CELLS_YES, CHECK_CELLS};
 use crate::judged_traces::{TRACE, YES};
 use crate::runs::{CHECK, File, RUN};
 use cohere_core::Status;
@@ -84,6 +86,97 @@ pub(crate) const SEVEN: Task<'static> = (
         b"ok points 23 rank 529\n",
         b"ok points 23 rank 529\n",
         b"check accepted points 23 rank 529 stages 3\n",
+    ],
+);
+
+// The Schur ring of a colouring of the cyclic group of four elements.
+const RING: Task<'static> = (
+    &["ring", "G", "0", "1", "2", "1"],
+    &[("G", b"matrix 4\n0 1 2 3\n1 2 3 0\n2 3 0 1\n3 0 1 2\n")],
+    Status::Done,
+    &[b"ring points 4 rank 3\n0 1 2 1\n"],
+);
+
+// The cells of a path of three points.
+const CELLS_ANSWER: Task<'static> = (&CELLS_OF, &[("R", b"Bg\n")], Status::Done, &[CELLS]);
+
+// A question about cells that is refused.
+const BAD_SET: Task<'static> = (
+    &["cells", "R", "9"],
+    &[("R", b"Bg\n")],
+    Status::Done,
+    &[b"refused BadSet\n"],
+);
+
+// A check of a claim of cells that is accepted.
+const CELLS_ACCEPTED: Task<'static> = (&CHECK_CELLS, &[("T", CELLS)], Status::Done, &[CELLS_YES]);
+
+// A check of a claim of cells that is not.
+const CELLS_REFUSED: Task<'static> = (
+    &CHECK_CELLS,
+    &[(
+        "T",
+        b"cells 1\npoints 3\n0 1 0\n1 0 1\n0 1 0\ncells\n0 1 0\nend\n",
+    )],
+    Status::CheckedNo,
+    &[b"refused line 6 NotEquitable\n"],
+);
+
+// The lattice of the fusions of the 3-cube.
+const LATTICE: Task<'static> = (
+    &["lattice", "R"],
+    &[("R", CUBE)],
+    Status::Done,
+    &[
+        b"lattice fusions 4 covers 4
+0 1 1 1
+0 1 1 2
+0 1 2 1
+0 1 2 3
+1 0
+2 0
+3 1
+3 2
+end
+",
+    ],
+);
+
+// What two of these fusions have in common.
+const COMMON: Task<'static> = (
+    &["lattice", "R", "1", "2"],
+    &[("R", CUBE)],
+    Status::Done,
+    &[b"common 1 2 3\n"],
+);
+
+/// Questions about a relation.
+pub(crate) const QUESTIONS: [Task<'static>; 5] = [RING, CELLS_ANSWER, BAD_SET, LATTICE, COMMON];
+
+/// Checks of claims of cells.
+pub(crate) const CELL_CHECKS: [Task<'static>; 2] = [CELLS_ACCEPTED, CELLS_REFUSED];
+
+/// The table of the array of the 5-cycle, which reads nothing.
+pub(crate) const TABLE: Task<'static> = (
+    &["table", "2", "2", "1", "1", "1"],
+    &[],
+    Status::Done,
+    &[
+        b"table points 5 rank 3 entries 13
+0 0 0 1
+1 1 0 2
+2 2 0 2
+0 1 1 1
+1 0 1 1
+1 2 1 1
+2 1 1 1
+2 2 1 1
+0 2 2 1
+1 1 2 1
+1 2 2 1
+2 0 2 1
+2 1 2 1
+",
     ],
 );
 

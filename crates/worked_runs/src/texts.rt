@@ -37,6 +37,28 @@ pub(crate) fn with_returns(alloc: Global, text: &[u8]) -> Result<Vec<u8>, AllocE
     Ok(returned)
 }
 
+/// The text, with this in place of the line of this number, counted from 1, and of its line end.
+pub(crate) fn with_line(
+    alloc: Global,
+    text: &[u8],
+    number: u32,
+    line: &[u8],
+) -> Result<Vec<u8>, AllocError> {
+    let mut changed = Vec::new(alloc);
+    let mut at = 1u32;
+    for byte in text {
+        if at != number {
+            changed.push(*byte)?;
+        } else if *byte == b'\n' {
+            changed.extend_from_slice(line)?;
+        }
+        if *byte == b'\n' {
+            at = at.saturating_add(1);
+        }
+    }
+    Ok(changed)
+}
+
 /// The matrix of a directed cycle: colour 1 leads from each point to the next.
 pub(crate) fn directed_cycle(
     alloc: Global,

@@ -24,8 +24,13 @@ const WORDS: [&[&str]; 15] = [
     &["demo", "4294967296"],
 ];
 
-// No file is read: a store whose first call would fail is never called.
-fn fits_no_form(rt: &impl Abort, alloc: Global, row: usize, words: &[&str]) -> Result<(), Fail> {
+/// The usage line is told. No file is read: a store whose first call would fail is never called.
+pub(crate) fn fits_no_form(
+    rt: &impl Abort,
+    alloc: Global,
+    row: usize,
+    words: &[&str],
+) -> Result<(), Fail> {
     let mut store = failing_store(alloc, &[("R", b"A_"), ("S", b"show")], 0)?;
     let usage = told(Status::Usage, USAGE);
     ends_for_both(rt, alloc, row, words, &mut store, usage)

@@ -8,7 +8,7 @@ use Rattle.pair_colours.specs.Closure.{Coherent, IsClosureOf}
 use Rattle.pair_colours.specs.Naming.{named_of}
 use Rattle.pair_colours.proofs.LawProofs.{named_closure_exists, named_closure_is_unique}
 use Rattle.trace_text.specs.declared.stage_list.Stage.{Stage}
-use Rattle.trace_text.specs.Chains.{Follows, stage_start, IsStageOf, chain_end, AreStages}
+use Rattle.trace_text.specs.Chains.{Follows, partition_before, stage_start, IsStageOf, chain_end, AreStages}
 use Rattle.trace_text.specs.Split.{Lead, partition_after}
 use Rattle.trace_text.specs.Acceptance.{Accepts}
 use Rattle.trace_text.specs.RoundChains.{AreFollowing}
@@ -45,7 +45,7 @@ MayGoOn-none C = record { stages = tt; end = tt; follows = tt }
 
 -- with steps on one class each to a coherent partition it makes a chain of C
 pub IsChainOf-made : (C P : PairColouring) (before chain : List Stage) (stage : Stage) → IsColouring C → MayGoOn before C → stage.colours ≡ C
-    → Lead stage.steps (stage_start (chain_end before) C) P → IsOfOneClass stage → Coherent P → chain ≡ before ++ stage ∷ [] → IsChainOf C before chain
+    → Lead stage.steps (stage_start (partition_before (chain_end before)) C) P → IsOfOneClass stage → Coherent P → chain ≡ before ++ stage ∷ [] → IsChainOf C before chain
 IsChainOf-made C P before chain stage c may same leads one_class coherent is = record {
   stage = stage;
   colours = same;
@@ -57,7 +57,7 @@ IsChainOf-made C P before chain stage c may same leads one_class coherent is = r
     follows : IsStageOf (chain_end before) stage P
     follows = record {
       follows = subst (Follows (chain_end before)) (sym same) may.follows;
-      leads = subst (λ D. Lead stage.steps (stage_start (chain_end before) D) P) (sym same) leads;
+      leads = subst (λ D. Lead stage.steps (stage_start (partition_before (chain_end before)) D) P) (sym same) leads;
     }
 
     between : IsBetween C P
@@ -67,18 +67,18 @@ IsChainOf-made C P before chain stage c may same leads one_class coherent is = r
     closure_is K k = named_closure_is_unique C K (named_of P) c k (closure_at_end C P (named_of P) between coherent refl)
 
 -- and the chain ends where the steps do
-pub chain_end-made : (C P : PairColouring) (before chain : List Stage) (stage : Stage) → stage.colours ≡ C → Lead stage.steps (stage_start (chain_end before) C) P
+pub chain_end-made : (C P : PairColouring) (before chain : List Stage) (stage : Stage) → stage.colours ≡ C → Lead stage.steps (stage_start (partition_before (chain_end before)) C) P
     → chain ≡ before ++ stage ∷ [] → chain_end chain ≡ Some (record { colours = C; partition = P })
 chain_end-made C P before chain stage same leads is =
     ap chain_end is ∙ chain_end-push before stage
-    ∙ (λ i. Some (record { colours = same i; partition = partition_after (stage_start (chain_end before) (same i)) stage.steps }))
-    ∙ (λ i. Some (record { colours = C; partition = sym (lead_after stage.steps (stage_start (chain_end before) C) P leads) i }))
+    ∙ (λ i. Some (record { colours = same i; partition = partition_after (stage_start (partition_before (chain_end before)) (same i)) stage.steps }))
+    ∙ (λ i. Some (record { colours = C; partition = sym (lead_after stage.steps (stage_start (partition_before (chain_end before)) C) P leads) i }))
 
 -- some steps do
 pub chain_exists : (C : PairColouring) (before : List Stage) → IsColouring C → MayGoOn before C → (chain : List Stage) × IsChainOf C before chain
 chain_exists C before c may =
     let start = start_between (chain_end before) C may.end c may.follows in
-    let led = steps_exist (stage_start (chain_end before) C) start.partition in
+    let led = steps_exist (stage_start (partition_before (chain_end before)) C) start.partition in
     let stage : Stage = record { colours = C; steps = led.0 } in
     let P = led.1 in
     (before ++ stage ∷ [], IsChainOf-made C P before (before ++ stage ∷ []) stage c may refl led.4 led.5 led.3 refl)

@@ -7,13 +7,10 @@ use Rattle.std.proofs.lemmas.List.FromFn.{length-map-range_with_len, get_or-map-
 use Rattle.std.proofs.Math.Seq.{get_or-append_seam}
 use Rattle.pair_colours.specs.Colouring.{PairColouring, IsColouring, IsRawColouring, Refines}
 use Rattle.pair_colours.specs.Closure.{Coherent, IsClosureOf}
-use Rattle.pair_colours.specs.Naming.{named_of}
 use Rattle.pair_colours.proofs.Places.{Refines-trans}
 use Rattle.trace_text.specs.declared.stage_list.Stage.{Stage}
-use Rattle.trace_text.specs.Chains.{stage_start, chain_end}
+use Rattle.trace_text.specs.Chains.{partition_before, stage_start, chain_end}
 use Rattle.trace_text.specs.Split.{Lead}
-use Rattle.trace_text.specs.Partition.{meet_of}
-use Rattle.trace_text.proofs.Meeting.{IsNamedMeet-meet_of}
 use Rattle.trace_text.proofs.Decided.{refines_or_not}
 use Rattle.wl_refine.specs.Closed.{IsForced}
 use Rattle.recolour_bench.specs.declared.edits.EditFault.{EditFault}
@@ -23,10 +20,9 @@ use Rattle.recolour_bench.specs.Edits.{Edit}
 use Rattle.recolour_bench.specs.EntryChains.{IsChainOf}
 use Rattle.recolour_bench.specs.History.{Entry, IsEntryAfter, Starts, no_entry, entry_at}
 use Rattle.recolour_bench.specs.Steps.{edits, Makes, IsRefusedAt, EditStep, RedoStep, IsRefused}
-use Rattle.recolour_bench.specs.Kept.{no_stage, no_kept, entry_kept, history_of, IsKeptOf, IsKeptHistory, IsMadeFrom, IsMadeFromMeet}
+use Rattle.recolour_bench.specs.Kept.{no_stage, no_kept, entry_kept, history_of, IsKeptOf, IsKeptHistory, IsMadeFrom}
 use Rattle.recolour_bench.proofs.Chains.{IsOfOneClass, IsSound, MayGoOn, MayGoOn-none, MayGoOn-sound, IsEnd-sound, IsChainOf-made, chain_end-made, sound_at}
 use Rattle.recolour_bench.proofs.Stepping.{IsHistory-edited, start_is_history}
-use Rattle.pair_colours.proofs.Meets.{IsNamedMeet-unique}
 use Rattle.trace_text.specs.Ends.{IsBetween, IsEnd}
 
 -- an entry of a stage and of what is kept, of the stages up to here
@@ -91,8 +87,8 @@ IsForced-present stages kept position stage now C here r =
 pub record IsMadeBy (before : PairColouring) (now : Kept) (place : ℕ) (raw : PairColouring) (made : Made) : Type 0 where
   pub colours : made.stage.colours ≡ raw
   pub closure : IsClosureOf made.kept.closure raw
-  pub goes_on : Refines raw before → IsMadeFromMeet raw now.last now.start made
-  pub starts : ¬ Refines raw before → IsMadeFrom (named_of raw) (place + 1) made
+  pub goes_on : Refines raw before → IsMadeFrom (stage_start (Some now.last) raw) now.start made
+  pub starts : ¬ Refines raw before → IsMadeFrom (stage_start None raw) (place + 1) made
 
 -- the entry that it makes
 abbrev pub entry_made : List Stage → ℕ → Made → Entry
@@ -101,7 +97,7 @@ entry_made stages position made = entry_by (take (position + 1) stages ++ made.s
 -- its chain: a stage after those before, which leads to P
 record IsLed (C P : PairColouring) (before chain : List Stage) (stage : Stage) : Type 0 where
   may : MayGoOn before C
-  leads : Lead stage.steps (stage_start (chain_end before) C) P
+  leads : Lead stage.steps (stage_start (partition_before (chain_end before)) C) P
   one_class : IsOfOneClass stage
   coherent : Coherent P
   is : chain ≡ before ++ stage ∷ []
@@ -114,19 +110,13 @@ led_on : (stages : List Stage) (kept : List Kept) (position : ℕ) (stage : Stag
     → IsLed raw made.kept.last (drop now.start (take (position + 1) stages)) (entry_made stages position made).chain made.stage
 led_on stages kept position stage now raw made here c m r = record {
   may = MayGoOn-sound (position + 1) (entry_by (take (position + 1) stages) stage now) raw here.sound r;
-  leads = subst (λ P. Lead made.stage.steps P made.kept.last) (from_is ∙ sym (ap (λ end. stage_start end raw) here.of.ends)) (m.goes_on r).made.leads;
-  one_class = (m.goes_on r).made.one_class;
-  coherent = (m.goes_on r).made.coherent;
+  leads = subst (λ P. Lead made.stage.steps P made.kept.last) (sym (ap (λ end. stage_start (partition_before end) raw) here.of.ends)) (m.goes_on r).leads;
+  one_class = (m.goes_on r).one_class;
+  coherent = (m.goes_on r).coherent;
   is =
-      ap (λ start. drop start (take (position + 1) stages ++ made.stage ∷ [])) (m.goes_on r).made.start
+      ap (λ start. drop start (take (position + 1) stages ++ made.stage ∷ [])) (m.goes_on r).start
       ∙ drop-append-le now.start (take (position + 1) stages) (made.stage ∷ []) (omega (arith, here.start, length-front stages position here.low));
 }
-  where
-    ends : IsBetween stage.colours now.last
-    ends = between stages kept position stage now here
-
-    from_is : (m.goes_on r).from ≡ meet_of raw now.last
-    from_is = IsNamedMeet-unique raw now.last (m.goes_on r).from (meet_of raw now.last) (m.goes_on r).meet (IsNamedMeet-meet_of raw now.last c ends.partition (r.sizes ∙ sym ends.refines.sizes))
 
 led_anew : (stages : List Stage) (position : ℕ) (before : PairColouring) (now : Kept) (raw : PairColouring) (made : Made) → position < length stages
     → IsMadeBy before now position raw made → ¬ Refines raw before → IsLed raw made.kept.last [] (entry_made stages position made).chain made.stage
@@ -176,7 +166,7 @@ kept-made stages kept position stage now raw made here c m = record {
 
 start-made : (position : ℕ) (before : PairColouring) (now : Kept) (raw : PairColouring) (made : Made) → now.start ≤ position → IsMadeBy before now position raw made → made.kept.start ≤ position + 1
 start-made position before now raw made l m = ⊎_elim
-    (λ r. omega (arith, l, (m.goes_on r).made.start))
+    (λ r. omega (arith, l, (m.goes_on r).start))
     (λ not. omega (arith, (m.starts not).start))
     (refines_or_not raw before)
 
@@ -320,7 +310,7 @@ IsKeptHistory-moved stages kept position place k l = record {
 }
 
 -- the start of a history
-pub Starts-kept : (C : PairColouring) (made : Made) → IsRawColouring C → made.stage.colours ≡ C → IsMadeFrom (named_of C) 0 made → Starts C (history_of (made.stage ∷ []) (made.kept ∷ []) 0)
+pub Starts-kept : (C : PairColouring) (made : Made) → IsRawColouring C → made.stage.colours ≡ C → IsMadeFrom (stage_start None C) 0 made → Starts C (history_of (made.stage ∷ []) (made.kept ∷ []) 0)
 Starts-kept C made c same m = record {
   entry = entry_by (made.stage ∷ []) made.stage made.kept;
   first = record { colouring = same; chain = chain_led C made.kept.last [] (drop made.kept.start (made.stage ∷ [])) made.stage c.fits.colouring same (led_first C made m) };
@@ -328,10 +318,10 @@ Starts-kept C made c same m = record {
   position = refl;
 }
   where
-    led_first : (D : PairColouring) (new : Made) → IsMadeFrom (named_of D) 0 new → IsLed D new.kept.last [] (drop new.kept.start (new.stage ∷ [])) new.stage
+    led_first : (D : PairColouring) (new : Made) → IsMadeFrom (stage_start None D) 0 new → IsLed D new.kept.last [] (drop new.kept.start (new.stage ∷ [])) new.stage
     led_first D new n = record { may = MayGoOn-none D; leads = n.leads; one_class = n.one_class; coherent = n.coherent; is = ap (λ start. drop start (new.stage ∷ [])) n.start }
 
-pub IsKeptHistory-first : (C : PairColouring) (made : Made) → IsRawColouring C → made.stage.colours ≡ C → IsClosureOf made.kept.closure C → IsMadeFrom (named_of C) 0 made
+pub IsKeptHistory-first : (C : PairColouring) (made : Made) → IsRawColouring C → made.stage.colours ≡ C → IsClosureOf made.kept.closure C → IsMadeFrom (stage_start None C) 0 made
     → IsKeptHistory (made.stage ∷ []) (made.kept ∷ []) 0
 IsKeptHistory-first C made c same k m = record {
   lengths = refl;

@@ -7,9 +7,9 @@ use Rattle.trace_text.specs.declared.step_list.Step.{Step}
 use Rattle.trace_text.specs.Split.{Lead}
 use Rattle.trace_text.specs.Versions.{HasStep}
 use Rattle.wl_refine.specs.declared.closing.Closed.{Closed}
-use Rattle.wl_refine.specs.Closed.{IsReached, IsReachedFromMeet}
+use Rattle.wl_refine.specs.Closed.{IsReached}
 use Rattle.recolour_bench.specs.declared.chaining.Made.{Made}
-use Rattle.recolour_bench.specs.Kept.{IsMadeFrom, IsMadeFromMeet}
+use Rattle.recolour_bench.specs.Kept.{IsMadeFrom}
 
 -- the new stage has the steps of the closure, ends where it ended, and its chain starts at the place
 pub record IsMadeOf (closed : Closed) (place : ℕ) (new : Made) : Type 0 where
@@ -28,6 +28,3 @@ made_from P closed place new is r = record {
   coherent = subst (λ (Q : PairColouring). Coherent Q) (sym is.last) r.coherent;
   start = is.start;
 }
-
-pub made_from_meet : (raw last : PairColouring) (closed : Closed) (place : ℕ) (new : Made) → IsMadeOf closed place new → IsReachedFromMeet raw last closed → IsMadeFromMeet raw last place new
-made_from_meet raw last closed place new is r = record { from = r.start; meet = r.meet; made = made_from r.start closed place new is r.reached }

@@ -1,10 +1,15 @@
 -- Closures of closures, and of products.
-use Rattle.std.proofs.Common.{◌≡◌}
+use Rattle.std.proofs.Common.{◌≡◌, Option, None, Some, sym}
+use Rattle.std.specs.Prelude.{IfSome}
 use Rattle.pair_colours.specs.Colouring.{PairColouring, IsColouring}
 use Rattle.pair_colours.specs.Closure.{Coherent, IsClosureOf}
 use Rattle.pair_colours.specs.Naming.{named_of, IsNamedMeet}
 use Rattle.pair_colours.proofs.LawProofs.{named_closure_is_unique}
 use Rattle.pair_colours.proofs.Places.{Refines-refl, Refines-trans}
+use Rattle.pair_colours.proofs.Meets.{IsNamedMeet-unique}
+use Rattle.trace_text.specs.Partition.{meet_of}
+use Rattle.trace_text.specs.Chains.{stage_start}
+use Rattle.trace_text.proofs.Meeting.{IsNamedMeet-meet_of}
 use Rattle.wl_refine.specs.Closed.{IsForced}
 
 -- a coherent colouring with the names of the walk is its own closure
@@ -34,7 +39,7 @@ closure_is_one C K L k l = named_closure_is_unique K K L k.closure.colouring (Is
     }
 
 -- and the named meet of itself with a partition that it must refine
-pub IsNamedMeet-itself : (R last : PairColouring) → IsClosureOf R R → IsForced R last → IsNamedMeet R last R
+IsNamedMeet-itself : (R last : PairColouring) → IsClosureOf R R → IsForced R last → IsNamedMeet R last R
 IsNamedMeet-itself R last r forced = record {
   colouring = r.closure.colouring;
   first = Refines-refl R;
@@ -42,3 +47,9 @@ IsNamedMeet-itself R last r forced = record {
   together = λ x y u v hx hy hu hv own other. own;
   named = r.named;
 }
+
+-- so it is where a stage of it starts
+pub stage_start-itself : (last : Option PairColouring) (R : PairColouring) → IsClosureOf R R → IfSome last (λ P. P.size ≡ R.size) → IfSome last (IsForced R) → stage_start last R ≡ R
+stage_start-itself None R r sizes forced = r.named
+stage_start-itself (Some last) R r sizes forced =
+    IsNamedMeet-unique R last (meet_of R last) R (IsNamedMeet-meet_of R last r.closure.colouring (sym sizes)) (IsNamedMeet-itself R last r forced)

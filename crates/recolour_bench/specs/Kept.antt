@@ -3,7 +3,6 @@ use Rattle.std.specs.Prelude.{◌≡◌, ℕ, ◌+◌, ◌<◌, ◌≤◌, List,
 use Rattle.std.specs.List.{AllByRecursion}
 use Rattle.pair_colours.specs.Colouring.{PairColouring, points}
 use Rattle.pair_colours.specs.Closure.{Coherent, IsClosureOf}
-use Rattle.pair_colours.specs.Naming.{IsNamedMeet}
 use Rattle.trace_text.specs.declared.stage_list.Stage.{Stage}
 use Rattle.trace_text.specs.Chains.{chain_end}
 use Rattle.trace_text.specs.Split.{Lead}
@@ -48,9 +47,3 @@ pub record IsMadeFrom (P : PairColouring) (place : ℕ) (new : Made) : Type 0 wh
   pub one_class : AllByRecursion (HasStep 1) new.stage.steps
   pub coherent : Coherent new.kept.last
   pub start : new.kept.start ≡ place
-
--- they lead from the named meet of two colourings
-pub record IsMadeFromMeet (raw last : PairColouring) (place : ℕ) (new : Made) : Type 0 where
-  pub from : PairColouring
-  pub meet : IsNamedMeet raw last from
-  pub made : IsMadeFrom from place new

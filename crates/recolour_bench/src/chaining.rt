@@ -1,12 +1,13 @@
 //! The stage and the closure of what an edit made.
 
-ghost use Rattle.std.specs.Prelude.{◌≡◌, ◌+◌, ◌^◌, ◌<◌, ◌↔◌, true, IsTrue, IfOk};
+ghost use Rattle.std.specs.Prelude.{◌≡◌, ◌+◌, ◌^◌, ◌<◌, ◌↔◌, true, None, Some, IsTrue, IfOk, IfSome, option_copied};
 ghost use Rattle.pair_colours.specs.Colouring.{FitsColouring, Refines};
 ghost use Rattle.pair_colours.specs.Closure.{Coherent, IsClosureOf};
 ghost use Rattle.pair_colours.specs.Naming.{named_of};
-ghost use Rattle.wl_refine.specs.Closed.{IsForced, IsReached, IsReachedFromMeet};
+ghost use Rattle.trace_text.specs.Chains.{stage_start};
+ghost use Rattle.wl_refine.specs.Closed.{IsForced, IsReached};
 ghost use Rattle.recolour_bench.specs.Edits.{Adopt, edit_of, makes_closure as is_closed};
-ghost use Rattle.recolour_bench.specs.Kept.{IsMadeFrom, IsMadeFromMeet};
+ghost use Rattle.recolour_bench.specs.Kept.{IsMadeFrom};
 
 use crate::edits::{Edit, makes_closure};
 use crate::kept::Kept;
@@ -54,36 +55,26 @@ fn itself(alloc: Global, closure: &Colouring) -> Result<Closed, NoMemory>
     })
 }
 
-// The closure of what the edit made, from where the chain before ended.
-pub(crate) fn closed_on(
+// The closure of a colouring, from where a stage of it starts: after the partition where the chain before
+// ended, if the chain goes on. A closure is its own.
+fn closed_after(
     alloc: Global,
-    edit: &Edit,
+    is_own_closure: bool,
     raw: &Colouring,
-    last: &Colouring,
+    last: Option<&Colouring>,
 ) -> Result<Closed, NoMemory>
-    requires sizes { last.now.size ≡ raw.now.size }
-    requires forced { IsForced raw.now last.now }
-    requires closed { is_closed (edit_of edit.now) ≡ true → IsClosureOf raw.now raw.now }
+    requires sizes { IfSome (option_copied last) (λ last. last.size ≡ raw.now.size) }
+    requires forced { IfSome (option_copied last) (IsForced raw.now) }
+    requires closed { is_own_closure ≡ true → IsClosureOf raw.now raw.now }
     ensures closure { IfOk result (λ closed. IsClosureOf closed.matrix raw.now) }
-    ensures reached { IfOk result (IsReachedFromMeet raw.now last.now) }
+    ensures reached { IfOk result (IsReached (stage_start (option_copied last.entry) raw.now)) }
 {
-    if makes_closure(edit) {
-        itself(alloc, raw)
-    } else {
-        close_from(alloc, raw, last)
+    if is_own_closure {
+        return itself(alloc, raw);
     }
-}
-
-// The closure of what the edit made, where a chain starts.
-fn closed_anew(alloc: Global, edit: &Edit, raw: &Colouring) -> Result<Closed, NoMemory>
-    requires closed { is_closed (edit_of edit.now) ≡ true → IsClosureOf raw.now raw.now }
-    ensures closure { IfOk result (λ closed. IsClosureOf closed.matrix raw.now) }
-    ensures reached { IfOk result (IsReached (named_of raw.now)) }
-{
-    if makes_closure(edit) {
-        itself(alloc, raw)
-    } else {
-        close(alloc, raw)
+    match last {
+        None => close(alloc, raw),
+        Some(last) => close_from(alloc, raw, last),
     }
 }
 
@@ -113,17 +104,27 @@ fn made_of(raw: Colouring, closed: Closed, start: usize) -> Made
     }
 }
 
-// The stage of a first entry.
-pub(crate) fn made_first(alloc: Global, raw: Colouring) -> Result<Made, NoMemory>
+// The stage of a colouring, in a chain that starts at the place: after the partition where the chain
+// before ended, if the chain goes on.
+pub(crate) fn made_after(
+    alloc: Global,
+    is_own_closure: bool,
+    raw: Colouring,
+    last: Option<&Colouring>,
+    start: usize,
+) -> Result<Made, NoMemory>
+    requires sizes { IfSome (option_copied last) (λ last. last.size ≡ raw.size) }
+    requires forced { IfSome (option_copied last) (IsForced raw) }
+    requires closed { is_own_closure ≡ true → IsClosureOf raw raw }
     ensures colours { IfOk result (λ made. made.stage.colours ≡ raw) }
     ensures closure { IfOk result (λ made. IsClosureOf made.kept.closure raw) }
-    ensures starts { IfOk result (IsMadeFrom (named_of raw) 0) }
+    ensures made { IfOk result (IsMadeFrom (stage_start (option_copied last.entry) raw) start) }
     ensures within { FitsColouring raw }
 {
     // What is known of the size is kept as a fact about the colouring.
     let _points = raw.size();
-    let closed = close(alloc, &raw)?;
-    Ok(made_of(raw, closed, 0))
+    let closed = closed_after(alloc, is_own_closure, &raw, last)?;
+    Ok(made_of(raw, closed, start))
 }
 
 // The stage of what the edit made, for an entry after the one of the colouring before at the place.
@@ -142,14 +143,13 @@ pub(crate) fn made_by(
     requires room { place < 2 ^ 32 }
     ensures colours { IfOk result (λ made. made.stage.colours ≡ raw) }
     ensures closure { IfOk result (λ made. IsClosureOf made.kept.closure raw) }
-    ensures goes_on { IfOk result (λ made. Refines raw before.now → IsMadeFromMeet raw kept.now.last kept.now.start made) }
-    ensures starts { IfOk result (λ made. ¬ Refines raw before.now → IsMadeFrom (named_of raw) (place + 1) made) }
+    ensures goes_on { IfOk result (λ made. Refines raw before.now → IsMadeFrom (stage_start (Some kept.now.last) raw) kept.now.start made) }
+    ensures starts { IfOk result (λ made. ¬ Refines raw before.now → IsMadeFrom (stage_start None raw) (place + 1) made) }
 {
+    let is_own_closure = makes_closure(edit);
     if chain_goes_on(alloc, edit, &raw, before)? {
-        let closed = closed_on(alloc, edit, &raw, &kept.last)?;
-        Ok(made_of(raw, closed, kept.start))
+        made_after(alloc, is_own_closure, raw, Some(&kept.last), kept.start)
     } else {
-        let closed = closed_anew(alloc, edit, &raw)?;
-        Ok(made_of(raw, closed, place + 1))
+        made_after(alloc, is_own_closure, raw, None, place + 1)
     }
 }

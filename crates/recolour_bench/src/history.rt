@@ -8,7 +8,7 @@ ghost use Rattle.recolour_bench.specs.Edits.{IsRawEdit, edit_of};
 ghost use Rattle.recolour_bench.specs.History.{IsHistory, Starts, present, present_chain};
 ghost use Rattle.recolour_bench.specs.Steps.{edits, undoes, redoes, Accepts, IsRefused, Step};
 
-use crate::chaining::{Made, made_by, made_first};
+use crate::chaining::{Made, made_after, made_by};
 use crate::edits::{Edit, EditFault};
 use crate::kept::{Kept, put_after, stages_from};
 use crate::making::next_by;
@@ -50,7 +50,7 @@ impl Bench {
         ensures started { IfOk result (Starts raw) }
         ensures within { IfOk result IsHistory }
     {
-        let made = made_first(alloc, raw)?;
+        let made = made_after(alloc, false, raw, None, 0)?;
         let mut stages = Vec::new(alloc);
         stages.push(made.stage)?;
         let mut kept = Vec::new(alloc);

@@ -1,34 +1,33 @@
 //! Where stages start.
 
-ghost use Rattle.std.specs.Prelude.{◌≡◌, IfOk};
-ghost use Rattle.pair_colours.specs.Colouring.{IsColouring};
-ghost use Rattle.pair_colours.specs.Naming.{named_of};
-ghost use Rattle.trace_text.specs.Partition.{meet_of};
+ghost use Rattle.std.specs.Prelude.{◌≡◌, IfOk, IfSome, option_copied};
+ghost use Rattle.trace_text.specs.Chains.{stage_start};
 
 use pair_colours::{Colouring, NoMemory};
 use split_cells::Cells;
 use std::alloc::Global;
+use trace_text::start_of;
 
-// Where a first stage of these colours starts.
-pub(crate) fn first_start(alloc: Global, colours: &Colouring) -> Result<Cells, NoMemory>
-    requires { IsColouring colours.now }
-    ensures { IfOk result (λ cells. cells ≡ named_of colours.now) }
+// A partition as a colouring, if there is one.
+fn colouring_of(alloc: Global, last: Option<&Cells>) -> Result<Option<Colouring>, NoMemory>
+    ensures { IfOk result (λ partition. partition ≡ option_copied last.entry) }
 {
-    let named = colours.named(alloc)?;
-    Cells::of(alloc, &named)
+    match last {
+        None => Ok(None),
+        Some(cells) => Ok(Some(cells.colouring(alloc)?)),
+    }
 }
 
-// Where a stage of these colours starts after one that ended with a partition.
-pub(crate) fn later_start(
+// Where a stage of these colours starts, after one that ended with a partition, if one did.
+pub(crate) fn start_cells(
     alloc: Global,
+    last: Option<&Cells>,
     colours: &Colouring,
-    partition: &Cells,
 ) -> Result<Cells, NoMemory>
-    requires colours { IsColouring colours.now }
-    requires sizes { colours.now.size ≡ partition.now.size }
-    ensures { IfOk result (λ cells. cells ≡ meet_of colours.now partition.now) }
+    requires { IfSome (option_copied last) (λ last. colours.now.size ≡ last.size) }
+    ensures { IfOk result (λ cells. cells ≡ stage_start (option_copied last.entry) colours.now) }
 {
-    let partition = partition.colouring(alloc)?;
-    let meet = colours.meet(alloc, &partition)?;
-    Cells::of(alloc, &meet)
+    let partition = colouring_of(alloc, last)?;
+    let start = start_of(alloc, partition.as_ref(), colours)?;
+    Cells::of(alloc, &start)
 }

@@ -3,12 +3,12 @@
 ghost use Rattle.std.specs.Prelude.{◌≡◌, ◌↔◌, ℕ, ◌∷◌, [], ◌+◌, ◌^◌, ◌<◌, IsTrue, length, Some, OnOk, IfOk, IfSome, IfNone};
 ghost use Rattle.pair_colours.specs.Colouring.{IsColouring};
 ghost use Rattle.trace_text.specs.Split.{HasParts, IsSplit, Lead, NamesClasses, split_of};
-ghost use Rattle.trace_text.specs.Chains.{Follows, IsStageOf, stage_end, stage_start};
+ghost use Rattle.trace_text.specs.Chains.{Follows, IsStageOf, partition_before, stage_end, stage_start};
 ghost use Rattle.trace_text.specs.BadLines.{IsFirstFailing, line_count_of_stage, stage_conditions, step_conditions};
 ghost use Rattle.trace_check.specs.Ends.{before_of};
 ghost use Rattle.trace_text.specs.Ends.{IsEnd};
 
-use crate::partitions::{first_start, later_start};
+use crate::partitions::start_cells;
 use pair_colours::{Colouring, NoMemory};
 use split_cells::Cells;
 use std::alloc::Global;
@@ -87,18 +87,18 @@ fn start(
 ) -> Result<Option<Cells>, NoMemory>
     requires before { IsEnd (before_of before.now) }
     requires colours { IsColouring colours.now }
-    ensures start { IfOk result (λ start. IfSome start (λ cells. cells ≡ stage_start (before_of before.now) colours.now)) }
+    ensures start { IfOk result (λ start. IfSome start (λ cells. cells ≡ stage_start (partition_before (before_of before.now)) colours.now)) }
     ensures follows { IfOk result (λ start. IfSome start (λ _. Follows (before_of before.now) colours.now)) }
     ensures none { IfOk result (λ start. IfNone start (¬ Follows (before_of before.now) colours.now)) }
 {
     match before {
-        None => Ok(Some(first_start(alloc, colours)?)),
+        None => Ok(Some(start_cells(alloc, None, colours)?)),
         Some(end) => {
             let refining = colours.refines(alloc, end.colours)?;
             if !refining {
                 return Ok(None);
             }
-            Ok(Some(later_start(alloc, colours, &end.cells)?))
+            Ok(Some(start_cells(alloc, Some(&end.cells), colours)?))
         }
     }
 }

@@ -14,7 +14,7 @@ use Rattle.trace_text.specs.declared.stage_list.Stage.{Stage}
 use Rattle.trace_text.specs.declared.stage_list.Claim.{Claim}
 use Rattle.trace_text.specs.Partition.{IsPartition}
 use Rattle.trace_text.specs.Split.{numbers_of, split_of, Lead}
-use Rattle.trace_text.specs.Chains.{StageEnd, stage_start, IsStageOf, stage_end, end_after, AreStages}
+use Rattle.trace_text.specs.Chains.{StageEnd, partition_before, stage_start, IsStageOf, stage_end, end_after, AreStages}
 use Rattle.trace_text.specs.Acceptance.{Accepts}
 use Rattle.trace_text.specs.Versions.{HasStep, IsVersioned}
 use Rattle.trace_text.specs.ClaimTexts.{IsTraceStep, IsTraceStage, FitsTrace}
@@ -63,7 +63,7 @@ stage_fits v n before stage P e size raw known d =
     record {
       points = size;
       colours = raw;
-      steps = lead_small v stage.steps (stage_start before stage.colours) P s.partition (omega (arith, s.refines.sizes, raw.fits.limit)) known d.leads;
+      steps = lead_small v stage.steps (stage_start (partition_before before) stage.colours) P s.partition (omega (arith, s.refines.sizes, raw.fits.limit)) known d.leads;
     }
 
 -- the stages after one of n points, and where they end

@@ -8,7 +8,7 @@ use Rattle.trace_text.specs.declared.step_list.Step.{Step}
 use Rattle.trace_text.specs.declared.stage_list.Stage.{Stage}
 use Rattle.trace_text.specs.declared.stage_list.Claim.{Claim}
 use Rattle.trace_text.specs.Split.{Lead, split_of, partition_after}
-use Rattle.trace_text.specs.Chains.{StageEnd, Follows, stage_start, IsStageOf, stage_end, end_after, chain_end, AreStages}
+use Rattle.trace_text.specs.Chains.{StageEnd, Follows, partition_before, stage_start, IsStageOf, stage_end, end_after, chain_end, AreStages}
 use Rattle.trace_text.specs.Acceptance.{Accepts}
 use Rattle.trace_text.specs.BadLines.{names_classes, has_parts, Holds, step_conditions, colours_conditions, stage_conditions, line_count_of_stage, chain_conditions, end_conditions, first_line, closure_line, conditions, AllHold}
 use Rattle.trace_text.proofs.Stages.{chain_ends}
@@ -36,15 +36,15 @@ pub stage_from_hold : (line : ℕ) (before : Option StageEnd) (stage : Stage) �
     → IsStageOf before stage (stage_end before stage).partition
 stage_from_hold line before stage h =
     let first : ℕ = line + 1 + stage.colours.size in
-    let own = Each-parts (λ at. Holds at.1) (colours_conditions line before stage.colours) (step_conditions first (stage_start before stage.colours) stage.steps) h in
-    record { follows = follows_from_hold line before stage.colours own.0; leads = lead_from_hold first (stage_start before stage.colours) stage.steps own.1 }
+    let own = Each-parts (λ at. Holds at.1) (colours_conditions line before stage.colours) (step_conditions first (stage_start (partition_before before) stage.colours) stage.steps) h in
+    record { follows = follows_from_hold line before stage.colours own.0; leads = lead_from_hold first (stage_start (partition_before before) stage.colours) stage.steps own.1 }
 
 pub hold_from_stage : (line : ℕ) (before : Option StageEnd) (stage : Stage) (P : PairColouring) → IsStageOf before stage P → AllHold (stage_conditions line before stage)
 hold_from_stage line before stage P d =
     let first : ℕ = line + 1 + stage.colours.size in
-    Each-append (λ at. Holds at.1) (colours_conditions line before stage.colours) (step_conditions first (stage_start before stage.colours) stage.steps)
+    Each-append (λ at. Holds at.1) (colours_conditions line before stage.colours) (step_conditions first (stage_start (partition_before before) stage.colours) stage.steps)
     (hold_from_follows line before stage.colours d.follows)
-    (hold_from_lead first (stage_start before stage.colours) P stage.steps d.leads)
+    (hold_from_lead first (stage_start (partition_before before) stage.colours) P stage.steps d.leads)
 
 -- and on all stages
 pub stages_from_hold : (line : ℕ) (before : Option StageEnd) (stages : List Stage) → AllHold (chain_conditions line before stages) → AreStages before stages

@@ -33,7 +33,7 @@ parts_one_class = one_class.parts_one_class
 pub parts_two_keys : PartsTwoKeys
 parts_two_keys = one_class.parts_two_keys
 
--- the meet with a partition is the named meet, and has the closure of a refining colouring
+-- the meet of two colourings is the named meet, and has the closure of a refining colouring
 pub meet_is_named_meet : MeetIsNamedMeet
 meet_is_named_meet = meeting.IsNamedMeet-meet_of
 

@@ -7,6 +7,7 @@ pub mod Splits
 pub mod Leads
 pub mod Reaching
 pub mod Meeting
+pub mod Starts
 pub mod RoundSteps
 pub mod Stages
 pub mod RoundChains

@@ -1,53 +1,57 @@
 -- Named meets, and the closure of a colouring that refines another.
 use Rattle.std.proofs.Common.{◌≡◌, ◌↔◌, ℕ, ◌+◌, ◌*◌, ◌/◌, ◌%◌, ◌<◌, refl, sym, ap, ◌∙◌, arith}
 use Rattle.std.proofs.lemmas.Nat.{div-mul-add, mod-mul-add}
-use Rattle.pair_colours.specs.Colouring.{PairColouring, IsColouring, Refines, IsSamePartition, colour_at}
+use Rattle.pair_colours.specs.Colouring.{PairColouring, IsColouring, IsColour, Refines, IsSamePartition, colour_at}
 use Rattle.pair_colours.specs.Closure.{Coherent, IsClosureOf}
-use Rattle.pair_colours.specs.Naming.{rank_of, named_of, IsNamedMeet}
-use Rattle.pair_colours.proofs.Closures.{IsColouring-named_of, named_of-refines, refines-named_of, named_of-named_of}
+use Rattle.pair_colours.specs.Naming.{rank_of, name_of, named_of, IsNamedMeet}
+use Rattle.pair_colours.proofs.Closures.{met_at, name_of-apart, IsColouring-named_of, named_of-refines, refines-named_of, named_of-named_of}
 use Rattle.pair_colours.proofs.Exists.{colour_at-by_pairs, IsColouring-by_pairs}
 use Rattle.pair_colours.proofs.Places.{Refines-trans}
-use Rattle.trace_text.specs.Partition.{IsPartition, coloured_by, meet_of}
+use Rattle.trace_text.specs.Partition.{coloured_by, meet_of}
 use Rattle.pair_colours.proofs.Meets.{meet_below}
 
--- both colours as one number
+-- the colour in one and the class in the other, as one number
 abbrev joined : PairColouring → PairColouring → PairColouring
-joined A P = coloured_by A.size (λ x y. colour_at A x y * rank_of P + colour_at P x y)
+joined A P = coloured_by A.size (λ x y. colour_at A x y * rank_of P + name_of P (colour_at P x y))
 
--- the meet with a partition is the named meet
-pub IsNamedMeet-meet_of : (A P : PairColouring) → IsColouring A → IsPartition P → A.size ≡ P.size → IsNamedMeet A P (meet_of A P)
-IsNamedMeet-meet_of A P a p sizes = record {
+-- the meet of two colourings is the named meet
+pub IsNamedMeet-meet_of : (A P : PairColouring) → IsColouring A → A.size ≡ P.size → IsNamedMeet A P (meet_of A P)
+IsNamedMeet-meet_of A P a sizes = record {
   colouring = IsColouring-named_of (joined A P) n;
   first = Refines-trans (named_of (joined A P)) (joined A P) A (named_of-refines (joined A P) n) (record {
     sizes = refl;
     classes = λ x y u v hx hy hu hv e.
-        sym (div-mul-add (colour_at A x y) (rank_of P) (colour_at P x y) (low x y hx hy)) ∙ ap (λ c. c / rank_of P) (codes x y u v hx hy hu hv e)
-        ∙ div-mul-add (colour_at A u v) (rank_of P) (colour_at P u v) (low u v hu hv);
+        sym (div-mul-add (colour_at A x y) (rank_of P) (name_of P (colour_at P x y)) (low x y hx hy)) ∙ ap (λ c. c / rank_of P) (codes x y u v hx hy hu hv e)
+        ∙ div-mul-add (colour_at A u v) (rank_of P) (name_of P (colour_at P u v)) (low u v hu hv);
   });
   second = Refines-trans (named_of (joined A P)) (joined A P) P (named_of-refines (joined A P) n) (record {
     sizes = sizes;
     classes = λ x y u v hx hy hu hv e.
-        sym (mod-mul-add (colour_at A x y) (rank_of P) (colour_at P x y) (low x y hx hy)) ∙ ap (λ c. c % rank_of P) (codes x y u v hx hy hu hv e)
-        ∙ mod-mul-add (colour_at A u v) (rank_of P) (colour_at P u v) (low u v hu hv);
+        name_of-apart P (colour_at P x y) (colour_at P u v) (used x y hx hy) (used u v hu hv)
+        (sym (mod-mul-add (colour_at A x y) (rank_of P) (name_of P (colour_at P x y)) (low x y hx hy)) ∙ ap (λ c. c % rank_of P) (codes x y u v hx hy hu hv e)
+        ∙ mod-mul-add (colour_at A u v) (rank_of P) (name_of P (colour_at P u v)) (low u v hu hv));
   });
   together = λ x y u v hx hy hu hv e f.
-      (refines-named_of (joined A P) n).classes x y u v hx hy hu hv (at x y hx hy ∙ (λ i. e i * rank_of P + f i) ∙ sym (at u v hu hv));
+      (refines-named_of (joined A P) n).classes x y u v hx hy hu hv (at x y hx hy ∙ (λ i. e i * rank_of P + name_of P (f i)) ∙ sym (at u v hu hv));
   named = named_of-named_of (joined A P) n;
 }
   where
     n : IsColouring (joined A P)
-    n = IsColouring-by_pairs A.size (λ x y. colour_at A x y * rank_of P + colour_at P x y) a.has_points
+    n = IsColouring-by_pairs A.size (λ x y. colour_at A x y * rank_of P + name_of P (colour_at P x y)) a.has_points
 
     at : (x y : ℕ) → x < A.size → y < A.size
-        → colour_at (joined A P) x y ≡ colour_at A x y * rank_of P + colour_at P x y
-    at x y hx hy = colour_at-by_pairs A.size (λ x y. colour_at A x y * rank_of P + colour_at P x y) x y hx hy
+        → colour_at (joined A P) x y ≡ colour_at A x y * rank_of P + name_of P (colour_at P x y)
+    at x y hx hy = colour_at-by_pairs A.size (λ x y. colour_at A x y * rank_of P + name_of P (colour_at P x y)) x y hx hy
 
-    low : (x y : ℕ) → x < A.size → y < A.size → colour_at P x y < rank_of P
-    low x y hx hy = p.below x y (omega (arith, hx, sizes)) (omega (arith, hy, sizes))
+    used : (x y : ℕ) → x < A.size → y < A.size → IsColour P (colour_at P x y)
+    used x y hx hy = record { x = x; y = y; row = omega (arith, hx, sizes); column = omega (arith, hy, sizes); is = refl }
+
+    low : (x y : ℕ) → x < A.size → y < A.size → name_of P (colour_at P x y) < rank_of P
+    low x y hx hy = (met_at P (colour_at P x y) (used x y hx hy)).0
 
     codes : (x y u v : ℕ) → x < A.size → y < A.size → u < A.size → v < A.size
         → colour_at (joined A P) x y ≡ colour_at (joined A P) u v
-        → colour_at A x y * rank_of P + colour_at P x y ≡ colour_at A u v * rank_of P + colour_at P u v
+        → colour_at A x y * rank_of P + name_of P (colour_at P x y) ≡ colour_at A u v * rank_of P + name_of P (colour_at P u v)
     codes x y u v hx hy hu hv e = sym (at x y hx hy) ∙ e ∙ at u v hu hv
 
 -- the closure of a colouring that refines C is the closure of its meet with the closure of C

@@ -83,5 +83,5 @@ rank_of-named_of A a = rank_from_used (named_of A) (rank_of A) (UsesBelow-named_
 
 pub IsPartition-meet_of : (A P : PairColouring) → IsColouring A → IsPartition (meet_of A P)
 IsPartition-meet_of A P a =
-    IsPartition-named_of (coloured_by A.size (λ x y. colour_at A x y * rank_of P + colour_at P x y))
-    (IsColouring-by_pairs A.size (λ x y. colour_at A x y * rank_of P + colour_at P x y) a.has_points)
+    IsPartition-named_of (coloured_by A.size (λ x y. colour_at A x y * rank_of P + name_of P (colour_at P x y)))
+    (IsColouring-by_pairs A.size (λ x y. colour_at A x y * rank_of P + name_of P (colour_at P x y)) a.has_points)

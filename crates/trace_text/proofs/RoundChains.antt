@@ -13,7 +13,7 @@ use Rattle.trace_text.specs.declared.stage_list.Stage.{Stage}
 use Rattle.trace_text.specs.declared.stage_list.Claim.{Claim}
 use Rattle.trace_text.specs.Partition.{IsPartition}
 use Rattle.trace_text.specs.Split.{HasParts, split_of, IsAllowed, Lead, partition_after}
-use Rattle.trace_text.specs.Chains.{StageEnd, Follows, stage_start, IsStageOf, stage_end, end_after, chain_end, AreStages}
+use Rattle.trace_text.specs.Chains.{StageEnd, Follows, partition_before, stage_start, IsStageOf, stage_end, end_after, chain_end, AreStages}
 use Rattle.trace_text.specs.Acceptance.{Accepts}
 use Rattle.trace_text.specs.Versions.{HasStep, IsVersioned}
 use Rattle.trace_text.specs.RoundChains.{AreRounds, AreRoundStages, IsRoundChain, AreFollowing}
@@ -126,14 +126,14 @@ rounds_kept before (stage ∷ rest) (round ∷ rounds) e c f a =
     let colouring : IsColouring round.colours = subst IsColouring (sym a.0) c.0 in
     let follows : Follows before round.colours = subst (Follows before) (sym a.0) f.0 in
     let start = start_between before round.colours e colouring follows in
-    let own : IsStageOf before round (stage_end before round).partition = record { follows = follows; leads = lead_from_rounds round.steps (stage_start before round.colours) a.1 } in
+    let own : IsStageOf before round (stage_end before round).partition = record { follows = follows; leads = lead_from_rounds round.steps (stage_start (partition_before before) round.colours) a.1 } in
     let again = rounds_kept (Some (stage_end before round)) rest rounds (end_between before round (stage_end before round).partition e colouring own) c.1
     (following-same (Some (stage_end before stage)) (Some (stage_end before round)) rest (sym a.0) f.1) a.2 in
     record {
       stages = (own, again.stages);
       colours = (colouring, again.colours);
-      coherent = λ h. again.coherent (rounds_coherent round.steps (stage_start before round.colours) start.partition a.1);
-      versions = (rounds_of_version round.steps (stage_start before round.colours) a.1, again.versions);
+      coherent = λ h. again.coherent (rounds_coherent round.steps (stage_start (partition_before before) round.colours) start.partition a.1);
+      versions = (rounds_of_version round.steps (stage_start (partition_before before) round.colours) a.1, again.versions);
     }
 
 pub round_chain_ends_coherent : (chain rounds : List Stage) (last : StageEnd) → AreFollowing None chain → All (λ stage. IsColouring stage.colours) chain
@@ -147,9 +147,9 @@ pub round_stages_exist : (before : Option StageEnd) (chain : List Stage) → IsE
 round_stages_exist before [] e c f = ([], tt)
 round_stages_exist before (stage ∷ rest) e c f =
     let start = start_between before stage.colours e c.0 f.0 in
-    let steps = rounds_exist (stage_start before stage.colours) start.partition in
+    let steps = rounds_exist (stage_start (partition_before before) stage.colours) start.partition in
     let round : Stage = record { colours = stage.colours; steps = steps.0 } in
-    let own : IsStageOf before round (stage_end before round).partition = record { follows = f.0; leads = lead_from_rounds steps.0 (stage_start before stage.colours) steps.1 } in
+    let own : IsStageOf before round (stage_end before round).partition = record { follows = f.0; leads = lead_from_rounds steps.0 (stage_start (partition_before before) stage.colours) steps.1 } in
     let again = round_stages_exist (Some (stage_end before round)) rest (end_between before round (stage_end before round).partition e c.0 own) c.1
     (following-same (Some (stage_end before stage)) (Some (stage_end before round)) rest refl f.1) in
     (round ∷ again.0, (refl, steps.1, again.1))
@@ -167,7 +167,7 @@ round_stages_unique before (stage ∷ rest) (r ∷ rounds) [] a b = absurd b
 round_stages_unique before (stage ∷ rest) (r ∷ rounds) (o ∷ other) a b =
     let colours : o.colours ≡ r.colours = b.0 ∙ sym a.0 in
     let steps : o.steps ≡ r.steps =
-    rounds_unique o.steps r.steps (stage_start before r.colours) (subst (λ C. AreRounds o.steps (stage_start before C)) colours b.1) a.1 in
+    rounds_unique o.steps r.steps (stage_start (partition_before before) r.colours) (subst (λ C. AreRounds o.steps (stage_start (partition_before before) C)) colours b.1) a.1 in
     let one : o ≡ r = λ i. record { colours = colours i; steps = steps i } in
     let again = round_stages_unique (Some (stage_end before r)) rest rounds other a.2 (subst (λ z. AreRoundStages (Some (stage_end before z)) rest other) one b.2) in
     λ i. sym one i ∷ again i

@@ -164,11 +164,11 @@ AreRounds-same (step ∷ steps) P Q p q s a =
       subst (λ t. IsSamePartition (partition_after (split_of P t) steps) (partition_after (split_of Q t) steps)) (sym a.0) again.1,
     )
 
--- the meet with a partition depends on its classes alone
-pub meet_of-same : (C P Q : PairColouring) → IsColouring C → IsPartition P → IsPartition Q → C.size ≡ P.size → IsSamePartition P Q → meet_of C P ≡ meet_of C Q
-meet_of-same C P Q c p q size s =
-    let m = IsNamedMeet-meet_of C P c p size in
-    let n = IsNamedMeet-meet_of C Q c q (size ∙ s.finer.sizes) in
+-- the meet with a colouring depends on its classes alone
+pub meet_of-same : (C P Q : PairColouring) → IsColouring C → C.size ≡ P.size → IsSamePartition P Q → meet_of C P ≡ meet_of C Q
+meet_of-same C P Q c size s =
+    let m = IsNamedMeet-meet_of C P c size in
+    let n = IsNamedMeet-meet_of C Q c (size ∙ s.finer.sizes) in
     IsNamedMeet-unique C Q (meet_of C P) (meet_of C Q) (record {
       colouring = m.colouring;
       first = m.first;

@@ -10,7 +10,7 @@ use Rattle.trace_text.specs.declared.check_words.CheckWord.TheVariants.{StageNot
 use Rattle.trace_text.specs.declared.stage_list.Stage.{Stage}
 use Rattle.trace_text.specs.declared.stage_list.Claim.{Claim}
 use Rattle.trace_text.specs.Split.{Lead}
-use Rattle.trace_text.specs.Chains.{StageEnd, Follows, stage_start, IsStageOf, stage_end, chain_end, AreStages}
+use Rattle.trace_text.specs.Chains.{StageEnd, Follows, partition_before, stage_start, IsStageOf, stage_end, chain_end, AreStages}
 use Rattle.trace_text.specs.Acceptance.{step_count}
 use Rattle.trace_text.specs.BadLines.{refines_stage, ends_coherent, names_end, step_conditions, colours_conditions, stage_conditions, line_count_of_stage, chain_conditions, end_conditions, first_line, closure_line, IsFirstFailing, IsFirstBadLine}
 use Rattle.trace_text.proofs.Stages.{stage_end-is, AreStages-push, chain_end-push, some_end}
@@ -25,7 +25,7 @@ not_following line None stage n = absurd (n tt)
 not_following line (Some before) stage n = record {
   before = [];
   condition = refines_stage stage.colours before.colours;
-  rest = step_conditions (line + 1 + stage.colours.size) (stage_start (Some before) stage.colours) stage.steps;
+  rest = step_conditions (line + 1 + stage.colours.size) (stage_start (Some before.partition) stage.colours) stage.steps;
   parts = refl;
   hold = tt;
   fails = n;
@@ -33,7 +33,7 @@ not_following line (Some before) stage n = record {
 }
 
 -- a stage from its start, and where it ends
-pub stage_from_start : (before : Option StageEnd) (stage : Stage) (start P : PairColouring) → start ≡ stage_start before stage.colours → Follows before stage.colours
+pub stage_from_start : (before : Option StageEnd) (stage : Stage) (start P : PairColouring) → start ≡ stage_start (partition_before before) stage.colours → Follows before stage.colours
     → Lead stage.steps start P → IsStageOf before stage P
 stage_from_start before stage start P e f l = record { follows = f; leads = subst (λ A. Lead stage.steps A P) e l }
 
@@ -42,10 +42,10 @@ pub stage_ends : (before : Option StageEnd) (stage : Stage) (P : PairColouring) 
 stage_ends before stage P d = λ i. record { colours = stage.colours; partition = stage_end-is before stage P d i }
 
 -- a stage with a step that fails
-pub stage_fails : (line : ℕ) (before : Option StageEnd) (stage : Stage) (start : PairColouring) (bad : ℕ) (word : CheckWord) → start ≡ stage_start before stage.colours → Follows before stage.colours
+pub stage_fails : (line : ℕ) (before : Option StageEnd) (stage : Stage) (start : PairColouring) (bad : ℕ) (word : CheckWord) → start ≡ stage_start (partition_before before) stage.colours → Follows before stage.colours
     → IsFirstFailing (step_conditions (line + 1 + stage.colours.size) start stage.steps) bad word → IsFirstFailing (stage_conditions line before stage) bad word
 stage_fails line before stage start bad word e f n =
-    failing_after (colours_conditions line before stage.colours) (step_conditions (line + 1 + stage.colours.size) (stage_start before stage.colours) stage.steps) bad word
+    failing_after (colours_conditions line before stage.colours) (step_conditions (line + 1 + stage.colours.size) (stage_start (partition_before before) stage.colours) stage.steps) bad word
     (hold_from_follows line before stage.colours f)
     (subst (λ P. IsFirstFailing (step_conditions (line + 1 + stage.colours.size) P stage.steps) bad word) e n)
 

@@ -3,17 +3,17 @@ use Rattle.std.proofs.Common.{◌≡◌, ℕ, ◌+◌, ◌*◌, ◌<◌, ◌≤�
 use Rattle.std.specs.List.{AllByRecursion}
 use Rattle.std.proofs.lemmas.List.Sums.{sum_by-cons, fold_push}
 use Rattle.std.proofs.lemmas.List.Elements.{recursion_from_All}
-use Rattle.pair_colours.specs.Colouring.{PairColouring, IsColouring, Refines}
+use Rattle.pair_colours.specs.Colouring.{PairColouring, IsColouring}
 use Rattle.pair_colours.specs.Closure.{Coherent, IsClosureOf}
-use Rattle.pair_colours.specs.Naming.{rank_of, named_of, IsNamedMeet}
+use Rattle.pair_colours.specs.Naming.{rank_of, named_of}
 use Rattle.pair_colours.proofs.Closures.{IsClosureOf-named_of, refines-named_of, named_of-refines, IsColouring-named_of}
 use Rattle.pair_colours.proofs.Places.{Refines-trans}
 use Rattle.trace_text.specs.declared.step_list.Step.{Step}
 use Rattle.trace_text.specs.declared.stage_list.Stage.{Stage}
 use Rattle.trace_text.specs.declared.stage_list.Claim.{Claim}
-use Rattle.trace_text.specs.Partition.{IsPartition, meet_of}
+use Rattle.trace_text.specs.Partition.{meet_of}
 use Rattle.trace_text.specs.Split.{Lead}
-use Rattle.trace_text.specs.Chains.{StageEnd, Follows, stage_start, IsStageOf, stage_end, end_after, chain_end, AreStages}
+use Rattle.trace_text.specs.Chains.{StageEnd, Follows, partition_before, stage_start, IsStageOf, stage_end, end_after, chain_end, AreStages}
 use Rattle.trace_text.specs.Acceptance.{Accepts, step_count}
 use Rattle.trace_text.proofs.Partitions.{IsPartition-named_of, IsPartition-meet_of, rank_of-named_of}
 use Rattle.trace_text.proofs.Ranks.{rank_of-le_pairs, rank_of-le_finer, rank_of-some}
@@ -23,7 +23,7 @@ use Rattle.pair_colours.proofs.Meets.{meet_below}
 use Rattle.trace_text.specs.Ends.{IsBetween, IsEnd}
 
 -- a stage starts between
-pub start_between : (before : Option StageEnd) (C : PairColouring) → IsEnd before → IsColouring C → Follows before C → IsBetween C (stage_start before C)
+pub start_between : (before : Option StageEnd) (C : PairColouring) → IsEnd before → IsColouring C → Follows before C → IsBetween C (stage_start (partition_before before) C)
 start_between None C e c f = record {
   colours = c;
   partition = IsPartition-named_of C c;
@@ -31,7 +31,7 @@ start_between None C e c f = record {
   keeps = λ Q q h r. Refines-trans Q C (named_of C) r (refines-named_of C c);
 }
 start_between (Some before) C e c f =
-    let m = IsNamedMeet-meet_of C before.partition c e.partition (f.sizes ∙ sym e.refines.sizes) in
+    let m = IsNamedMeet-meet_of C before.partition c (f.sizes ∙ sym e.refines.sizes) in
     record {
       colours = c;
       partition = IsPartition-meet_of C before.partition c;
@@ -44,11 +44,11 @@ pub end_between : (before : Option StageEnd) (stage : Stage) (P : PairColouring)
     → IsBetween stage.colours P
 end_between before stage P e c d =
     let s = start_between before stage.colours e c d.follows in
-    let b = lead_below stage.steps (stage_start before stage.colours) P s.partition d.leads in
+    let b = lead_below stage.steps (stage_start (partition_before before) stage.colours) P s.partition d.leads in
     record {
       colours = c;
       partition = b.partition;
-      refines = Refines-trans P (stage_start before stage.colours) stage.colours b.refines s.refines;
+      refines = Refines-trans P (stage_start (partition_before before) stage.colours) stage.colours b.refines s.refines;
       keeps = λ Q q h r. b.keeps Q q h (s.keeps Q q h r);
     }
 
@@ -61,7 +61,7 @@ stages_between before (stage ∷ rest) e c h =
 
 -- a stage ends where its steps lead
 pub stage_end-is : (before : Option StageEnd) (stage : Stage) (P : PairColouring) → IsStageOf before stage P → P ≡ (stage_end before stage).partition
-stage_end-is before stage P d = lead_after stage.steps (stage_start before stage.colours) P d.leads
+stage_end-is before stage P d = lead_after stage.steps (stage_start (partition_before before) stage.colours) P d.leads
 
 -- one stage more
 pub AreStages-push : (before : Option StageEnd) (front : List Stage) (last : Stage) (P : PairColouring) → AreStages before front
@@ -130,10 +130,10 @@ abbrev pub rank_before : Option StageEnd → ℕ
 rank_before None = 1
 rank_before (Some before) = rank_of before.partition
 
-start_rank : (before : Option StageEnd) (C : PairColouring) → IsEnd before → IsColouring C → Follows before C → rank_before before ≤ rank_of (stage_start before C)
+start_rank : (before : Option StageEnd) (C : PairColouring) → IsEnd before → IsColouring C → Follows before C → rank_before before ≤ rank_of (stage_start (partition_before before) C)
 start_rank None C e c f = rank_of-some (named_of C) (IsColouring-named_of C c)
 start_rank (Some before) C e c f =
-    let m = IsNamedMeet-meet_of C before.partition c e.partition (f.sizes ∙ sym e.refines.sizes) in
+    let m = IsNamedMeet-meet_of C before.partition c (f.sizes ∙ sym e.refines.sizes) in
     rank_of-le_finer (meet_of C before.partition) before.partition m.colouring m.second
 
 -- each step makes a class more, and no stage loses one
@@ -143,7 +143,7 @@ stages_rank before [] e c h = omega arith
 stages_rank before (stage ∷ rest) e c h =
     let end = stage_end before stage in
     let s = start_between before stage.colours e c.0 h.0.follows in
-    let b = lead_below stage.steps (stage_start before stage.colours) end.partition s.partition h.0.leads in
+    let b = lead_below stage.steps (stage_start (partition_before before) stage.colours) end.partition s.partition h.0.leads in
     let again = stages_rank (Some end) rest (end_between before stage end.partition e c.0 h.0) c.1 h.1 in
     omega (arith, again, b.rank, start_rank before stage.colours e c.0 h.0.follows, sum_by-cons (λ one. length one.steps) stage rest)
 
@@ -157,17 +157,3 @@ fewer_steps_than_pairs claim front last c e a =
     let rank : 1 + step_count claim.chain ≤ rank_of P = subst (λ o. 1 + step_count claim.chain ≤ rank_before o) a.ends (stages_rank None claim.chain tt each a.stages) in
     let most : rank_of P ≤ last.colours.size * last.colours.size = subst (λ n. rank_of P ≤ n * n) b.refines.sizes (rank_of-le_pairs P b.partition.colouring) in
     omega (arith, rank, most)
-
--- steps from the naming to a coherent partition show the closure
-pub closure_from_lead : (C P : PairColouring) (steps : List Step) → IsColouring C → Lead steps (named_of C) P → Coherent P → IsClosureOf (named_of P) C
-closure_from_lead C P steps c l h =
-    closure_at_end C P (named_of P) (end_between None (record { colours = C; steps = steps }) P tt c (record { follows = tt; leads = l })) h refl
-
--- and so do steps from the named meet with what each coherent colouring below C refines
-pub closure_from_meet : (C E M P : PairColouring) (steps : List Step) → IsColouring C → IsNamedMeet C E M
-    → ((Q : PairColouring) → IsColouring Q → Coherent Q → Refines Q C → Refines Q E) → Lead steps M P → Coherent P → IsClosureOf (named_of P) C
-closure_from_meet C E M P steps c m all l h =
-    let b = lead_below steps M P (subst IsPartition m.named (IsPartition-named_of M m.colouring)) l in
-    closure_at_end C P (named_of P)
-    (record { colours = c; partition = b.partition; refines = Refines-trans P M C b.refines m.first; keeps = λ Q q g r. b.keeps Q q g (meet_below Q C E M m r (all Q q g r)) })
-    h refl

@@ -10,7 +10,7 @@ use Rattle.trace_text.specs.declared.step_list.Step.{Step}
 use Rattle.trace_text.specs.declared.stage_list.Stage.{Stage}
 use Rattle.trace_text.specs.declared.stage_list.Claim.{Claim}
 use Rattle.trace_text.specs.Split.{NamesClasses, HasParts, split_of}
-use Rattle.trace_text.specs.Chains.{StageEnd, stage_start, stage_end, chain_end}
+use Rattle.trace_text.specs.Chains.{StageEnd, partition_before, stage_start, stage_end, chain_end}
 
 -- what has to hold at a line: colours refine those of the stage before; a step names classes of the partition before it, and parts one;
 -- the last partition is coherent, and the claimed closure is its naming
@@ -50,7 +50,7 @@ colours_conditions line (Some before) C = (line, refines_stage C before.colours)
 -- the conditions on a stage that begins with this line; its rows of colours follow, and then its steps
 abbrev pub stage_conditions : ℕ → Option StageEnd → Stage → List (ℕ × Condition)
 stage_conditions line before stage =
-    colours_conditions line before stage.colours ++ step_conditions (line + 1 + stage.colours.size) (stage_start before stage.colours) stage.steps
+    colours_conditions line before stage.colours ++ step_conditions (line + 1 + stage.colours.size) (stage_start (partition_before before) stage.colours) stage.steps
 
 -- how many lines a stage has
 abbrev pub line_count_of_stage : Stage → ℕ

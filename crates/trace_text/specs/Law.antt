@@ -47,9 +47,9 @@ PartsTwoKeys = (P : PairColouring) (k : ℕ) (key : ℕ → ℕ → ℕ) → (1 
 abbrev pub SplitKeepsCoherent : Type 0
 SplitKeepsCoherent = (Q P P2 : PairColouring) (s : Step) → IsColouring Q → Coherent Q → Refines Q P → IsSplit P s P2 → Refines Q P2
 
--- the meet with a partition is the named meet
+-- the meet at which a stage starts is the named meet
 abbrev pub MeetIsNamedMeet : Type 0
-MeetIsNamedMeet = (A P : PairColouring) → IsColouring A → IsPartition P → A.size ≡ P.size → IsNamedMeet A P (meet_of A P)
+MeetIsNamedMeet = (A P : PairColouring) → IsColouring A → A.size ≡ P.size → IsNamedMeet A P (meet_of A P)
 
 -- an accepted claim is the closure of the colours of its last stage
 abbrev pub AcceptedIsClosure : Type 0

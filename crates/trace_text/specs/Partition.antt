@@ -1,7 +1,7 @@
 -- Partitions of the pairs: colourings whose colours are the numbers below their rank.
 use Rattle.std.specs.Prelude.{ℕ, ◌+◌, ◌*◌, ◌/◌, ◌%◌, ◌<◌, map}
 use Rattle.pair_colours.specs.Colouring.{PairColouring, IsColouring, IsColour, colour_at, points}
-use Rattle.pair_colours.specs.Naming.{rank_of, named_of}
+use Rattle.pair_colours.specs.Naming.{rank_of, name_of, named_of}
 
 -- a partition: a colouring whose colours are the numbers below its rank
 pub record IsPartition (P : PairColouring) : Type 0 where
@@ -13,6 +13,6 @@ pub record IsPartition (P : PairColouring) : Type 0 where
 abbrev pub coloured_by : ℕ → (ℕ → ℕ → ℕ) → PairColouring
 coloured_by n f = record { size = n; colours = map (λ place. f (place / n) (place % n)) (points (n * n)) }
 
--- the named meet of a colouring and a partition: two pairs have one colour where they have one in both
+-- the named meet of two colourings: two pairs have one colour where they have one in both
 abbrev pub meet_of : PairColouring → PairColouring → PairColouring
-meet_of A P = named_of (coloured_by A.size (λ x y. colour_at A x y * rank_of P + colour_at P x y))
+meet_of A P = named_of (coloured_by A.size (λ x y. colour_at A x y * rank_of P + name_of P (colour_at P x y)))

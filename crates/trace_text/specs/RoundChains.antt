@@ -5,7 +5,7 @@ use Rattle.trace_text.specs.declared.step_list.Step.{Step}
 use Rattle.trace_text.specs.declared.step_list.Step.TheVariants.{Round}
 use Rattle.trace_text.specs.declared.stage_list.Stage.{Stage}
 use Rattle.trace_text.specs.Split.{HasParts, split_of}
-use Rattle.trace_text.specs.Chains.{StageEnd, Follows, stage_start, stage_end}
+use Rattle.trace_text.specs.Chains.{StageEnd, Follows, partition_before, stage_start, stage_end}
 
 -- the steps from P on are the step `R`, as often as it is not idle, and no other
 abbrev pub AreRounds : List Step → PairColouring → Type 0
@@ -16,7 +16,7 @@ AreRounds (s ∷ steps) P = (s ≡ Round) × HasParts P Round × AreRounds steps
 abbrev pub AreRoundStages : Option StageEnd → List Stage → List Stage → Type 0
 AreRoundStages before [] [] = ⊤
 AreRoundStages before (stage ∷ rest) (round ∷ rounds) =
-    (round.colours ≡ stage.colours) × AreRounds round.steps (stage_start before round.colours) × AreRoundStages (Some (stage_end before round)) rest rounds
+    (round.colours ≡ stage.colours) × AreRounds round.steps (stage_start (partition_before before) round.colours) × AreRoundStages (Some (stage_end before round)) rest rounds
 AreRoundStages before [] (round ∷ rounds) = ⊥
 AreRoundStages before (stage ∷ rest) [] = ⊥
 

@@ -5,6 +5,7 @@
 //!
 //! * `step_list`: `Step`, which splits a class of a partition, and `Steps`, a list of steps.
 //! * `stage_list`: `Stage`, `Chain` and `Claim`, what a trace says.
+//! * `stage_starts`: `start_of`, the partition at which a stage starts.
 //! * `check_words`: why a claim is not accepted.
 //! * `limits`: how long a trace may be, and what a step may name.
 //! * `trace_faults`: what is wrong with a text that is no trace.
@@ -21,6 +22,7 @@ mod limits;
 mod line_numbers;
 mod reader;
 mod stage_list;
+mod stage_starts;
 mod step_list;
 mod trace_cursor;
 mod trace_faults;
@@ -30,6 +32,7 @@ pub use check_words::CheckWord;
 pub use limits::{MOST_STEP_NUMBER, MOST_TRACE};
 pub use reader::read_trace;
 pub use stage_list::{Chain, Claim, Stage};
+pub use stage_starts::start_of;
 pub use step_list::{Step, Steps};
 pub use trace_faults::{TraceFault, TraceWord};
 pub use writer::write_trace;

@@ -1,38 +1,41 @@
 -- What steps up to a coherent partition reach.
-use Rattle.std.proofs.Common.{◌≡◌, sym, subst, ap, arith}
+use Rattle.std.proofs.Common.{◌≡◌, Option, None, Some, sym, subst, ap, arith}
+use Rattle.std.specs.Prelude.{IfSome}
 use Rattle.std.specs.List.{AllByRecursion}
 use Rattle.pair_colours.specs.Colouring.{PairColouring, IsColouring}
 use Rattle.pair_colours.specs.Closure.{Coherent, IsClosureOf}
-use Rattle.pair_colours.specs.Naming.{named_of, rank_of, IsNamedMeet}
+use Rattle.pair_colours.specs.Naming.{named_of, rank_of}
 use Rattle.pair_colours.proofs.Closures.{IsClosureOf-named_of, refines-named_of, named_of-refines}
 use Rattle.pair_colours.proofs.Places.{Refines-trans}
-use Rattle.trace_text.specs.Partition.{IsPartition}
+use Rattle.trace_text.specs.Partition.{IsPartition, meet_of}
+use Rattle.trace_text.specs.Chains.{stage_start}
 use Rattle.trace_text.specs.Split.{Lead}
 use Rattle.trace_text.specs.Versions.{HasStep}
 use Rattle.trace_text.proofs.Leads.{lead_below}
-use Rattle.trace_text.proofs.Partitions.{IsPartition-named_of, rank_of-named_of}
+use Rattle.trace_text.proofs.Meeting.{IsNamedMeet-meet_of}
+use Rattle.trace_text.proofs.Partitions.{IsPartition-named_of, IsPartition-meet_of, rank_of-named_of}
 use Rattle.wl_refine.specs.declared.closing.Closed.{Closed}
 use Rattle.wl_refine.specs.Closed.{IsReached, IsForced}
 use Rattle.trace_text.specs.Ends.{IsBetween}
 use Rattle.pair_colours.proofs.Meets.{meet_below}
 
--- the naming of a colouring is between it and its closure
-pub IsBetween-named_of : (C : PairColouring) → IsColouring C → IsBetween C (named_of C)
-IsBetween-named_of C c = record {
+-- a stage starts between its colours and their closure, where the partition before parts no pairs of the closure
+pub IsBetween-stage_start : (last : Option PairColouring) (C : PairColouring) → IsColouring C → IfSome last (λ P. C.size ≡ P.size) → IfSome last (IsForced C)
+    → IsBetween C (stage_start last C)
+IsBetween-stage_start None C c sizes forced = record {
   colours = c;
   partition = IsPartition-named_of C c;
   refines = named_of-refines C c;
   keeps = λ Q q h r. Refines-trans Q C (named_of C) r (refines-named_of C c);
 }
-
--- and so is the meet with a colouring that parts no pairs of the closure
-pub IsBetween-meet : (C E M : PairColouring) → IsColouring C → IsForced C E → IsNamedMeet C E M → IsBetween C M
-IsBetween-meet C E M c f m = record {
-  colours = c;
-  partition = subst IsPartition m.named (IsPartition-named_of M m.colouring);
-  refines = m.first;
-  keeps = λ Q q h r. meet_below Q C E M m r (f Q q h r);
-}
+IsBetween-stage_start (Some last) C c sizes forced =
+    let m = IsNamedMeet-meet_of C last c sizes in
+    record {
+      colours = c;
+      partition = IsPartition-meet_of C last c;
+      refines = m.first;
+      keeps = λ Q q h r. meet_below Q C last (meet_of C last) m r (forced Q q h r);
+    }
 
 -- what is reached from between is the closure
 pub IsClosureOf-reached : (C start : PairColouring) (closed : Closed) → IsBetween C start → IsReached start closed → IsClosureOf closed.matrix C

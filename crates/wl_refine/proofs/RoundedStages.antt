@@ -1,5 +1,6 @@
 -- Stages of rounds, made one after the other.
 use Rattle.std.proofs.Common.{◌≡◌, ℕ, ◌+◌, ◌<◌, ◌≤◌, List, [], ◌∷◌, ◌++◌, length, All, get_or, drop, Option, None, Some, refl, sym, ap, subst, ◌∙◌}
+use Rattle.std.specs.Prelude.{IfSome}
 use Rattle.std.proofs.lemmas.List.{append_assoc, append-nil, drop_more, drop_all}
 use Rattle.std.proofs.lemmas.List.Elements.{All-get_or}
 use Rattle.pair_colours.specs.Colouring.{PairColouring, IsColouring, IsSamePartition}
@@ -9,15 +10,14 @@ use Rattle.trace_text.specs.declared.step_list.Step.{Step}
 use Rattle.trace_text.specs.declared.stage_list.Stage.{Stage}
 use Rattle.trace_text.specs.Partition.{IsPartition}
 use Rattle.trace_text.specs.Split.{partition_after}
-use Rattle.trace_text.specs.Chains.{StageEnd, Follows, stage_start, stage_end, chain_end}
+use Rattle.trace_text.specs.Chains.{StageEnd, Follows, partition_before, stage_start, stage_end, chain_end}
 use Rattle.trace_text.specs.RoundChains.{AreRounds, AreRoundStages, IsRoundChain, AreFollowing}
 use Rattle.trace_text.proofs.Leads.{lead_below}
-use Rattle.trace_text.proofs.Meeting.{IsNamedMeet-meet_of}
 use Rattle.trace_text.proofs.Partitions.{IsPartition-named_of, IsPartition-meet_of}
 use Rattle.trace_text.proofs.RoundChains.{lead_from_rounds, following-same}
 use Rattle.trace_text.proofs.RoundSteps.{meet_of-same}
 use Rattle.trace_text.proofs.Stages.{chain_end-push}
-use Rattle.wl_refine.specs.RoundStarts.{MayStand, start_at}
+use Rattle.trace_text.proofs.Starts.{named_of-stage_start}
 use Rattle.wl_refine.proofs.MadeRounds.{IsPartition-named}
 
 -- a partition has the classes of that where a stage ended
@@ -36,32 +36,25 @@ KeepsClasses (Some last) (Some end) = HasClassesOf last end
 
 -- where a stage starts, from what is kept
 pub record StartsAt (last : Option PairColouring) (before : Option StageEnd) (C : PairColouring) : Type 0 where
-  pub stands : MayStand last C
-  pub is : start_at last C ≡ stage_start before C
-  pub partition : IsPartition (stage_start before C)
-  pub named : named_of (stage_start before C) ≡ stage_start before C
-  pub sizes : (stage_start before C).size ≡ C.size
+  pub sizes_before : IfSome last (λ P. C.size ≡ P.size)
+  pub is : stage_start last C ≡ stage_start (partition_before before) C
+  pub partition : IsPartition (stage_start (partition_before before) C)
+  pub named : named_of (stage_start (partition_before before) C) ≡ stage_start (partition_before before) C
+  pub sizes : (stage_start (partition_before before) C).size ≡ C.size
 
 pub starts_at : (last : Option PairColouring) (before : Option StageEnd) (C : PairColouring) → KeepsClasses last before → IsColouring C → Follows before C → StartsAt last before C
-starts_at None None C k c f = record { stands = tt; is = refl; partition = IsPartition-named_of C c; named = named_of-named_of C c; sizes = refl }
+starts_at None None C k c f = record { sizes_before = tt; is = refl; partition = IsPartition-named_of C c; named = named_of-named_of C c; sizes = refl }
 starts_at None (Some before) C k c f = absurd k
 starts_at (Some last) None C k c f = absurd k
 starts_at (Some last) (Some before) C k c f =
     let sizes : last.size ≡ C.size = k.same.finer.sizes ∙ k.sizes ∙ sym f.sizes in
     record {
-      stands = (k.kept, sizes);
-      is = meet_of-same C last before.partition c k.kept k.partition (sym sizes) k.same;
+      sizes_before = sym sizes;
+      is = meet_of-same C last before.partition c (sym sizes) k.same;
       partition = IsPartition-meet_of C before.partition c;
-      named = (IsNamedMeet-meet_of C before.partition c k.partition (sym (k.sizes ∙ sym f.sizes))).named;
+      named = named_of-stage_start (Some before.partition) C c (sym (k.sizes ∙ sym f.sizes));
       sizes = refl;
     }
-
--- so a start is a colouring, and named
-pub start_colouring : (last : Option PairColouring) (before : Option StageEnd) (C start : PairColouring) → StartsAt last before C → start ≡ start_at last C → IsColouring start
-start_colouring last before C start s e = subst IsColouring (sym (e ∙ s.is)) s.partition.colouring
-
-pub start_named : (last : Option PairColouring) (before : Option StageEnd) (C start : PairColouring) → StartsAt last before C → start ≡ start_at last C → named_of start ≡ start
-start_named last before C start s e = subst (λ A. named_of A ≡ A) (sym (e ∙ s.is)) s.named
 
 -- the chain has the stages of rounds of the first i stages, and can go on with those of the others
 pub record AreRoundedTo (stages : List Stage) (i : ℕ) (chain : List Stage) (last : Option PairColouring) : Type 0 where
@@ -94,19 +87,19 @@ pub record IsRoundedStage (start : PairColouring) (stage round : Stage) (end : P
   pub colouring : IsColouring end
   pub named : named_of end ≡ end
 
-pub rounded_stage : (last : Option PairColouring) (stage : Stage) (steps : List Step) (start colours end : PairColouring) → start ≡ start_at last stage.colours
+pub rounded_stage : (last : Option PairColouring) (stage : Stage) (steps : List Step) (start colours end : PairColouring) → start ≡ stage_start last stage.colours
     → colours ≡ stage.colours → AreRounds steps start → IsSamePartition end (partition_after start steps) → IsColouring end → named_of end ≡ end
-    → IsRoundedStage (start_at last stage.colours) stage (record { colours = colours; steps = steps }) end
+    → IsRoundedStage (stage_start last stage.colours) stage (record { colours = colours; steps = steps }) end
 rounded_stage last stage steps start colours end e copy rounds same c n =
     subst (λ A. IsRoundedStage A stage (record { colours = colours; steps = steps }) end) e
     (record { colours = copy; rounds = rounds; same = same; colouring = c; named = n })
 
 -- where it ends
-stage_keeps : (before : Option StageEnd) (round : Stage) (end : PairColouring) → IsPartition (stage_start before round.colours)
-    → (stage_start before round.colours).size ≡ round.colours.size → IsRoundedStage (stage_start before round.colours) round round end
+stage_keeps : (before : Option StageEnd) (round : Stage) (end : PairColouring) → IsPartition (stage_start (partition_before before) round.colours)
+    → (stage_start (partition_before before) round.colours).size ≡ round.colours.size → IsRoundedStage (stage_start (partition_before before) round.colours) round round end
     → HasClassesOf end (stage_end before round)
 stage_keeps before round end h sizes s =
-    let start = stage_start before round.colours in
+    let start = stage_start (partition_before before) round.colours in
     let below = lead_below round.steps start (partition_after start round.steps) h (lead_from_rounds round.steps start s.rounds) in
     record {
       kept = IsPartition-named end s.colouring s.named;
@@ -118,16 +111,16 @@ stage_keeps before round end h sizes s =
 -- one stage more
 pub rounded_more : (stages : List Stage) (i : ℕ) (chain new : List Stage) (last : Option PairColouring) (stage round : Stage) (end : PairColouring)
     → i < length stages → stage ≡ get_or stages i stage → AreRoundedTo stages i chain last → IsColouring stage.colours
-    → IsRoundedStage (start_at last stage.colours) stage round end → new ≡ chain ++ round ∷ [] → AreRoundedTo stages (i + 1) new (Some end)
+    → IsRoundedStage (stage_start last stage.colours) stage round end → new ≡ chain ++ round ∷ [] → AreRoundedTo stages (i + 1) new (Some end)
 rounded_more stages i chain new last stage round end l at r c s e =
     let before = chain_end chain in
     let more = left_at stages i stage l at in
     let f = subst (AreFollowing before) more r.following in
     let starts : StartsAt last before stage.colours = starts_at last before stage.colours r.keeps c f.0 in
     let starts2 : StartsAt last before round.colours = subst (StartsAt last before) (sym s.colours) starts in
-    let is : start_at last stage.colours ≡ stage_start before round.colours = starts.is ∙ ap (stage_start before) (sym s.colours) in
-    let rounds : AreRounds round.steps (stage_start before round.colours) = subst (AreRounds round.steps) is s.rounds in
-    let same : IsSamePartition end (partition_after (stage_start before round.colours) round.steps) =
+    let is : stage_start last stage.colours ≡ stage_start (partition_before before) round.colours = starts.is ∙ ap (stage_start (partition_before before)) (sym s.colours) in
+    let rounds : AreRounds round.steps (stage_start (partition_before before) round.colours) = subst (AreRounds round.steps) is s.rounds in
+    let same : IsSamePartition end (partition_after (stage_start (partition_before before) round.colours) round.steps) =
     subst (λ A. IsSamePartition end (partition_after A round.steps)) is s.same in
     let ends : Some (stage_end before round) ≡ chain_end new = sym (ap chain_end e ∙ chain_end-push chain round) in
     record {

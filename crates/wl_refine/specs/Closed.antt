@@ -3,7 +3,7 @@ use Rattle.std.specs.Prelude.{◌≡◌, ◌+◌, ◌≤◌, length}
 use Rattle.std.specs.List.{AllByRecursion}
 use Rattle.pair_colours.specs.Colouring.{PairColouring, IsColouring, Refines}
 use Rattle.pair_colours.specs.Closure.{Coherent}
-use Rattle.pair_colours.specs.Naming.{named_of, rank_of, IsNamedMeet}
+use Rattle.pair_colours.specs.Naming.{named_of, rank_of}
 use Rattle.trace_text.specs.Split.{Lead}
 use Rattle.trace_text.specs.Versions.{HasStep}
 use Rattle.wl_refine.specs.declared.closing.Closed.{Closed}
@@ -16,12 +16,6 @@ pub record IsReached (start : PairColouring) (closed : Closed) : Type 0 where
   pub coherent : Coherent closed.last
   pub names : closed.matrix ≡ named_of closed.last
   pub few : length closed.steps + rank_of start ≤ rank_of closed.matrix
-
--- they lead from the named meet of two colourings
-pub record IsReachedFromMeet (raw last : PairColouring) (closed : Closed) : Type 0 where
-  pub start : PairColouring
-  pub meet : IsNamedMeet raw last start
-  pub reached : IsReached start closed
 
 -- each coherent colouring that refines C refines E: nothing that E parts is left together in the closure of C
 abbrev pub IsForced : PairColouring → PairColouring → Type 0

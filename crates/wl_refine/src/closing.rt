@@ -1,9 +1,9 @@
 //! The closure of a colouring, with the steps that lead to it.
 
-ghost use Rattle.std.specs.Prelude.{◌≡◌, IfOk, OnOk};
+ghost use Rattle.std.specs.Prelude.{◌≡◌, None, Some, IfOk, IfSome, OnOk, option_copied};
 ghost use Rattle.pair_colours.specs.Closure.{Coherent, IsClosureOf};
-ghost use Rattle.pair_colours.specs.Naming.{named_of};
-ghost use Rattle.wl_refine.specs.Closed.{IsForced, IsReached, IsReachedFromMeet};
+ghost use Rattle.trace_text.specs.Chains.{stage_start};
+ghost use Rattle.wl_refine.specs.Closed.{IsForced, IsReached};
 ghost use Rattle.wl_refine.specs.Way.{LeadsOn};
 
 use crate::finishing::finish;
@@ -11,7 +11,7 @@ use crate::ways::Way;
 use pair_colours::{Colouring, NoMemory};
 use split_cells::Cells;
 use std::alloc::Global;
-use trace_text::Steps;
+use trace_text::{Steps, start_of};
 
 /// A closure, and how it was reached.
 #[derive(Drop)]
@@ -49,16 +49,27 @@ fn reached(alloc: Global, start: Cells) -> Result<Closed, NoMemory>
     })
 }
 
+// The closure of a colouring, with steps that lead to it from where a stage of it starts after one that
+// ended at a partition, if one did.
+fn close_after(alloc: Global, raw: &Colouring, last: Option<&Colouring>) -> Result<Closed, NoMemory>
+    requires sizes { IfSome (option_copied last) (λ last. raw.now.size ≡ last.size) }
+    requires forced { IfSome (option_copied last) (IsForced raw.now) }
+    ensures closure { IfOk result (λ closed. IsClosureOf closed.matrix raw.now) }
+    ensures reached { IfOk result (IsReached (stage_start (option_copied last.entry) raw.now)) }
+{
+    let _size = raw.size();
+    let start = start_of(alloc, last, raw)?;
+    let cells = Cells::of(alloc, &start)?;
+    reached(alloc, cells)
+}
+
 /// The closure of a colouring: the coarsest coherent configuration that refines it (Weisfeiler and
 /// Leman, 1968), with steps that lead to it from the naming of the colouring.
 pub fn close(alloc: Global, raw: &Colouring) -> Result<Closed, NoMemory>
     ensures closure { IfOk result (λ closed. IsClosureOf closed.matrix raw.now) }
-    ensures reached { IfOk result (IsReached (named_of raw.now)) }
+    ensures reached { IfOk result (IsReached (stage_start None raw.now)) }
 {
-    let _size = raw.size();
-    let named = raw.named(alloc)?;
-    let start = Cells::of(alloc, &named)?;
-    reached(alloc, start)
+    close_after(alloc, raw, None)
 }
 
 /// The same closure, with steps that lead to it from the named meet of the colouring and another,
@@ -68,10 +79,7 @@ pub fn close_from(alloc: Global, raw: &Colouring, last: &Colouring) -> Result<Cl
     requires sizes { last.now.size ≡ raw.now.size }
     requires forced { IsForced raw.now last.now }
     ensures closure { IfOk result (λ closed. IsClosureOf closed.matrix raw.now) }
-    ensures reached { IfOk result (IsReachedFromMeet raw.now last.now) }
+    ensures reached { IfOk result (IsReached (stage_start (Some last.now) raw.now)) }
 {
-    let _size = raw.size();
-    let meet = raw.meet(alloc, last)?;
-    let start = Cells::of(alloc, &meet)?;
-    reached(alloc, start)
+    close_after(alloc, raw, Some(last))
 }

@@ -3,7 +3,7 @@
 //! * `closing`: `close` and `close_from`, over all of these.
 //! * `round_chains`: chains of rounds over the colours of a chain.
 //! * `finishing`: steps up to a coherent partition.
-//! * `searching`: most of the steps, found by guesses and comparisons.
+//! * `searching`: most of the steps, found by what is certain, and then by guesses and comparisons.
 //! * `ways`: `Way`, a partition and the steps that made it.
 #![tactic(auto)]
 

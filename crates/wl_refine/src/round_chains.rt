@@ -4,12 +4,11 @@ ghost use Rattle.std.specs.Prelude.{◌≡◌, ◌↔◌, All, None, IfOk, IsTru
 ghost use Rattle.pair_colours.specs.Colouring.{FitsColouring, IsColouring, IsSamePartition};
 ghost use Rattle.pair_colours.specs.Naming.{named_of};
 ghost use Rattle.trace_text.specs.Split.{partition_after};
-ghost use Rattle.wl_refine.specs.RoundStarts.{MayStand, start_at};
 ghost use Rattle.trace_text.specs.RoundChains.{AreFollowing, AreRounds, IsRoundChain};
 
 use pair_colours::{Colouring, NoMemory};
 use std::alloc::Global;
-use trace_text::{Chain, Stage, Step, Steps};
+use trace_text::{Chain, Stage, Step, Steps, start_of};
 use wl_round::round_of;
 
 // The rounds from a partition on, and the last partition, canonically named.
@@ -49,23 +48,6 @@ fn rounds_from(alloc: Global, start: Colouring) -> Result<RoundsMade, NoMemory>
     }
 }
 
-// Where a stage of these colours starts: at their naming or, after another stage, at their named meet
-// with the partition where that one ended.
-fn start_of(
-    alloc: Global,
-    last: &Option<Colouring>,
-    colours: &Colouring,
-) -> Result<Colouring, NoMemory>
-    requires colouring { IsColouring colours.now }
-    requires last { MayStand last.now colours.now }
-    ensures { IfOk result (λ start. start ≡ start_at last.now colours.now) }
-{
-    match last {
-        None => colours.named(alloc),
-        Some(last) => colours.meet(alloc, last),
-    }
-}
-
 /// The chain of rounds over the colours of a chain: the chain with the same colours, in which each
 /// stage has the step `R` as often as it is not idle, and no other step. The steps of the given chain
 /// are not looked at.
@@ -77,7 +59,7 @@ pub fn rounds(alloc: Global, stages: &[Stage]) -> Result<Chain, NoMemory>
     let mut chain = Chain::new(alloc);
     let mut last = None;
     for stage in stages {
-        let start = start_of(alloc, &last, &stage.colours)?;
+        let start = start_of(alloc, last.as_ref(), &stage.colours)?;
         let rounds = rounds_from(alloc, start)?;
         let colours = stage.colours.copy(alloc)?;
         chain.push(Stage {

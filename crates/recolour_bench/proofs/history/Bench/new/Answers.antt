@@ -18,13 +18,13 @@ pub invariant_of-result : goal.invariant_of-result
 invariant_of-result c =
     subst (λ xs. IsKeptHistory xs c.push-2.new.self.items 0) (sym (stages c))
     (subst (λ ys. IsKeptHistory (c.in_ok-made.made.stage ∷ []) ys 0) (sym (kept c))
-    (IsKeptHistory-first c.args.raw c.in_ok-made.made (raw c) c.in_ok-made.ensures.colours c.in_ok-made.ensures.closure c.in_ok-made.ensures.starts))
+    (IsKeptHistory-first c.args.raw c.in_ok-made.made (raw c) c.in_ok-made.ensures.colours c.in_ok-made.ensures.closure c.in_ok-made.ensures.made))
 
 pub returns-clause-started : goal.returns-clause-started
 returns-clause-started c =
     subst (λ xs. Starts c.args.raw (history_of xs c.push-2.new.self.items 0)) (sym (stages c))
     (subst (λ ys. Starts c.args.raw (history_of (c.in_ok-made.made.stage ∷ []) ys 0)) (sym (kept c))
-    (Starts-kept c.args.raw c.in_ok-made.made (raw c) c.in_ok-made.ensures.colours c.in_ok-made.ensures.starts))
+    (Starts-kept c.args.raw c.in_ok-made.made (raw c) c.in_ok-made.ensures.colours c.in_ok-made.ensures.made))
 
 pub returns-clause-within : goal.returns-clause-within
 returns-clause-within c = (invariant_of-result c).history
